@@ -1,0 +1,13 @@
+//! The plain data that every part of the emulator speaks of: the processor's registers with the
+//! rules of a valid state, device accesses and their answers, faults, and words of a width.
+#![tactic(auto)]
+
+pub mod access;
+pub mod cpu;
+pub mod segment;
+pub mod word;
+
+pub use access::{Access, Answer, Fault, Made, NoMemory, Space};
+pub use cpu::{BadState, CodeSize, Cpu, Mode, is_canonical};
+pub use segment::{Seg, SegName, Table};
+pub use word::Word;
