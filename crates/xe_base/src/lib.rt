@@ -11,3 +11,6 @@ pub use access::{Access, Answer, Fault, Made, NoMemory, Space};
 pub use cpu::{BadState, CodeSize, Cpu, Mode, is_canonical};
 pub use segment::{Seg, SegName, Table};
 pub use word::Word;
+
+#[cfg(test)]
+mod tests;

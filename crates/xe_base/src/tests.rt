@@ -1,0 +1,116 @@
+//! What no clause says: that the rules and the numbers are the ones that were meant.
+
+use crate::{
+    Access, Answer, BadState, CodeSize, Cpu, Made, Mode, Seg, SegName, Space, Word, is_canonical,
+};
+use std::test::Fail;
+
+#[test]
+fn checks_each_rule(rt: HostRuntime) -> Result<(), Fail> {
+    let start = Cpu::reset();
+    assert_eq!(rt; start.check(), Ok(()));
+    assert_eq!(rt;
+        Cpu { rflags: 0, ..start }.check(),
+        Err(BadState { rule: 1 })
+    );
+    assert_eq!(rt; Cpu { cr0: 0, ..start }.check(), Err(BadState { rule: 2 }));
+    assert_eq!(rt;
+        Cpu {
+            cr4: 1 << 12,
+            ..start
+        }
+        .check(),
+        Err(BadState { rule: 3 })
+    );
+    assert_eq!(rt;
+        Cpu {
+            efer: 0x400,
+            ..start
+        }
+        .check(),
+        Err(BadState { rule: 4 })
+    );
+    assert_eq!(rt;
+        Cpu {
+            cr3: 1 << 40,
+            ..start
+        }
+        .check(),
+        Err(BadState { rule: 5 })
+    );
+    let far = Seg {
+        base: 1 << 32,
+        ..start.ds
+    };
+    assert_eq!(rt; Cpu { ds: far, ..start }.check(), Err(BadState { rule: 6 }));
+    assert_eq!(rt; Cpu { cpl: 3, ..start }.check(), Err(BadState { rule: 7 }));
+    assert_eq!(rt;
+        Cpu {
+            rip: 1 << 32,
+            ..start
+        }
+        .check(),
+        Err(BadState { rule: 9 })
+    );
+    assert_eq!(rt;
+        Cpu { cr0: 0x11, ..start }.check(),
+        Err(BadState { rule: 20 })
+    );
+    Ok(())
+}
+
+#[test]
+fn tells_the_mode(rt: HostRuntime) -> Result<(), Fail> {
+    let start = Cpu::reset();
+    let code = Seg {
+        attr: 0x29B,
+        ..start.cs
+    };
+    let long = Cpu {
+        cr0: 0x8000_0011,
+        cr4: 0x20,
+        efer: 0x500,
+        cs: code,
+        ..start
+    };
+    assert_eq!(rt;
+        (start.mode(), start.code_size()),
+        (Mode::Real, CodeSize::B16)
+    );
+    assert_eq!(rt;
+        (long.mode(), long.code_size()),
+        (Mode::Long, CodeSize::B64)
+    );
+    let compat = Cpu {
+        cs: Seg {
+            attr: 0xC9B,
+            ..code
+        },
+        ..long
+    };
+    assert_eq!(rt;
+        (compat.mode(), compat.code_size()),
+        (Mode::Compat, CodeSize::B32)
+    );
+    assert_eq!(rt;
+        Cpu {
+            rip: 0xFFFF_FFFF,
+            ..start
+        }
+        .next_rip(2),
+        1
+    );
+    assert_eq!(rt; start.segment(SegName::Cs).attr, 0x9B);
+    assert!(rt; is_canonical(0xFFFF_8000_0000_0000) & !is_canonical(0x8000_0000_0000));
+    Ok(())
+}
+
+#[test]
+fn cuts_words(rt: HostRuntime) -> Result<(), Fail> {
+    let byte: Word<8> = Word::new(0x1FF);
+    assert_eq!(rt; byte.get(), 0xFF);
+    assert_eq!(rt; byte.signed(), -1);
+    assert_eq!(rt; Made::default().answer, Answer::No);
+    assert_eq!(rt; Access::default().space, Space::Mem);
+    Ok(())
+}
