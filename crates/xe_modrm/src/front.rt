@@ -1,0 +1,90 @@
+ghost use Rattle.std.specs.Prelude.{◌≡◌, if◌then◌else◌};
+ghost use Rattle.xe_modrm.specs.Reader.{Within};
+ghost use Rattle.xe_modrm.specs.Prefix.{is_64_bit, is_prefix, prefixes_then, prefix_part};
+
+use crate::part::{Part, Prefixes};
+use xe_base::{CodeSize, SegName};
+
+/// Whether the code is 64-bit.
+pub(crate) fn is_64_bit(size: CodeSize) -> bool
+    ensures { result ≡ is_64_bit size }
+{
+    match size {
+        CodeSize::B16 | CodeSize::B32 => false,
+        CodeSize::B64 => true,
+    }
+}
+
+/// The prefixes with another segment.
+fn with_seg(found: Prefixes, seg: SegName) -> Prefixes
+    ensures { result ≡ record found { seg = Some seg } }
+{
+    Prefixes {
+        seg: Some(seg),
+        ..found
+    }
+}
+
+/// The prefixes with one more prefix byte, or None for a byte that is none.
+fn noted(size: CodeSize, found: Prefixes, byte: u8) -> Option<Prefixes>
+    ensures { result ≡ (if is_prefix size byte then Some (prefixes_then size found byte) else None) }
+{
+    let long = is_64_bit(size);
+    // A REX byte that isn't the last of the prefixes counts for nothing.
+    let found = Prefixes { rex: None, ..found };
+    match byte {
+        0xF0 => Some(Prefixes {
+            lock: true,
+            ..found
+        }),
+        0xF2 | 0xF3 => Some(Prefixes { rep: byte, ..found }),
+        0x26 if !long => Some(with_seg(found, SegName::Es)),
+        0x2E if !long => Some(with_seg(found, SegName::Cs)),
+        0x36 if !long => Some(with_seg(found, SegName::Ss)),
+        0x3E if !long => Some(with_seg(found, SegName::Ds)),
+        0x26 | 0x2E | 0x36 | 0x3E => Some(found),
+        0x64 => Some(with_seg(found, SegName::Fs)),
+        0x65 => Some(with_seg(found, SegName::Gs)),
+        0x66 => Some(Prefixes {
+            opsize: true,
+            ..found
+        }),
+        0x67 => Some(Prefixes {
+            adsize: true,
+            ..found
+        }),
+        0x40..=0x4F if long => Some(Prefixes {
+            rex: Some(byte),
+            ..found
+        }),
+        _ => None,
+    }
+}
+
+/// The prefixes at the front of `bytes`: all prefix bytes up to the first byte that is none.
+///
+/// The legacy prefixes are F0, F2, F3, 2E, 36, 3E, 26, 64, 65, 66 and 67. Of F2 and F3 the last
+/// counts, and of the segment prefixes too. In 64-bit code 40 to 4F is REX where it stands
+/// directly before the opcode and is ignored elsewhere among the prefixes, and 2E, 36, 3E and 26
+/// are ignored and cancel nothing (SDM volume 2, sections 2.1.1 and 2.2.1). `More` comes exactly
+/// where every byte is a prefix byte, so that the opcode is missing.
+pub fn prefixes(size: CodeSize, bytes: &[u8]) -> Part<Prefixes>
+    ensures value { result ≡ prefix_part size bytes.now }
+    ensures within { Within result bytes.now }
+{
+    let mut found = Prefixes {
+        lock: false,
+        rep: 0,
+        seg: None,
+        opsize: false,
+        adsize: false,
+        rex: None,
+    };
+    for (i, byte) in bytes.iter().enumerate() {
+        match noted(size, found, *byte) {
+            Some(next) => found = next,
+            None => return Part::Got(found, i),
+        }
+    }
+    Part::More
+}

@@ -1,0 +1,11 @@
+//! The parts of an x86 instruction around its opcode: the prefixes before it, and the ModRM byte
+//! with what belongs to it (SIB byte and displacement) after it.
+#![tactic(auto)]
+
+pub mod front;
+pub mod modrm;
+pub mod part;
+
+pub use front::prefixes;
+pub use modrm::operand;
+pub use part::{ModRm, Part, Prefixes};
