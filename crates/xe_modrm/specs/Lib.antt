@@ -1,3 +1,4 @@
 pub mod Reader
 pub mod Prefix
 pub mod Operand
+pub mod Address

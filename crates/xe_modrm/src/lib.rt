@@ -2,10 +2,12 @@
 //! with what belongs to it (SIB byte and displacement) after it.
 #![tactic(auto)]
 
+pub mod address;
 pub mod front;
 pub mod modrm;
 pub mod part;
 
+pub use address::{effective_offset, effective_segment};
 pub use front::prefixes;
 pub use modrm::operand;
 pub use part::{ModRm, Part, Prefixes};
