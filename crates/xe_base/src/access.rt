@@ -32,7 +32,7 @@ pub struct Access {
 /// What a device answers to an access.
 #[derive(Clone, Copy, Drop, PartialEq, Eq, Debug, Default)]
 pub enum Answer {
-    /// The value read, below 2^(8 * size) of the access; 0 to a write.
+    /// The answer, below 2^(8 * size) of the access: the value read; to a write it has no meaning.
     Val(u64),
     /// There is no such register; only in the space `Msr`.
     #[default]
