@@ -1,3 +1,4 @@
 pub mod WidthLaws
 pub mod Ram
 pub mod Bytes
+pub mod CalmLaws

@@ -1,9 +1,8 @@
-use Rattle.std.proofs.Common.{ℕ, zero, suc, ◌≡◌, ◌<◌, ◌≤◌, ◌+◌, ◌-◌, List, [], ◌∷◌, ◌++◌, length, drop, take, get_or, set, subst, refl, sym, ap, ◌∙◌, arith, rules, Bool, true, false, ◌&&◌, nat_lt, nat_le, if◌then◌else◌, ◌%◌, ◌==◌, bit_or, slice_index, slice_set, inl, inr, ◌⊎◌}
-use Rattle.std.proofs.lemmas.List.{get_or-set_same, get_or-set_other, set-get_or, length-set, append-nil}
+use Rattle.std.proofs.Common.{ℕ, zero, suc, ◌≡◌, ◌<◌, ◌≤◌, ◌+◌, ◌-◌, List, [], ◌∷◌, ◌++◌, length, drop, take, set, refl, sym, ap, arith, Bool, true, false, ◌&&◌, nat_le, ◌%◌, ◌==◌, bit_or, slice_set, inl, inr, ◌⊎◌}
+use Rattle.std.proofs.lemmas.List.{get_or-set_same, get_or-set_other, set-get_or, length-set}
 use Rattle.std.proofs.Math.Seq.{drop-cons}
-use Rattle.std.proofs.lemmas.Bool.{cases_lt, cases_eq, cases_Bool}
+use Rattle.std.proofs.lemmas.Bool.{cases_eq, cases_Bool}
 use Rattle.std.proofs.lemmas.Bool.Decides.{nat_tests}
-use Rattle.std.proofs.lemmas.Grind.{common_steps}
 use Rattle.xe_base.specs.Ram.{Area}
 use Rattle.xe_base.specs.Ram.{holds, in_ram, byte_of, put_byte, bytes_of, put_bytes, in_one, AreRam, Apart, Paged, set_bits, ordered}
 

@@ -1,4 +1,4 @@
-use Rattle.std.specs.Prelude.{ℕ, Bool, true, false, not, IsTrue, ◌==◌, ◌||◌, ◌&&◌, ◌^◌, ◌*◌, nat_lt, if◌then◌else◌}
+use Rattle.std.specs.Prelude.{ℕ, Bool, true, false, IsTrue, ◌==◌, ◌||◌, ◌&&◌, ◌^◌, ◌*◌, nat_lt, if◌then◌else◌}
 use Rattle.xe_base.specs.declared.access.Space.{Space}
 use Rattle.xe_base.specs.declared.access.Space.TheVariants.{Mem, Port, Msr, Cpuid}
 use Rattle.xe_base.specs.declared.access.Access.{Access}

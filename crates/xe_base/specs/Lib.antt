@@ -6,3 +6,4 @@ pub mod Reset
 pub mod Registers
 pub mod Ram
 pub mod Bytes
+pub mod Calm

@@ -1,4 +1,4 @@
-use Rattle.std.specs.Prelude.{ℕ, Bool, not, ◌&&◌, ◌||◌, nat_le, ◌+◌, ◌*◌, ◌/◌, ◌%◌, ◌^◌, ◌-◌, ◌==◌, if◌then◌else◌, slice_index, slice_set, List}
+use Rattle.std.specs.Prelude.{ℕ, Bool, not, ◌&&◌, ◌||◌, nat_le, ◌+◌, ◌*◌, ◌/◌, ◌%◌, ◌^◌, ◌-◌, ◌==◌, if◌then◌else◌, slice_index, slice_set}
 use Rattle.xe_base.specs.declared.cpu.Cpu.{Cpu}
 use Rattle.xe_base.specs.declared.cpu.CodeSize.{CodeSize}
 use Rattle.xe_base.specs.declared.cpu.CodeSize.TheVariants.{B16, B32, B64}

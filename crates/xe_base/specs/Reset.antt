@@ -2,7 +2,7 @@ use Rattle.std.specs.Prelude.{ℕ}
 use Rattle.xe_base.specs.declared.cpu.Cpu.{Cpu}
 use Rattle.xe_base.specs.declared.segment.Seg.{Seg}
 use Rattle.xe_base.specs.declared.segment.Table.{Table}
-use Rattle.std.specs.Prelude.{List, [], ◌∷◌}
+use Rattle.std.specs.Prelude.{[], ◌∷◌}
 
 -- a segment at address 0 with 64 KiB
 abbrev pub flat : ℕ → Seg

@@ -1,4 +1,4 @@
-use Rattle.std.specs.Prelude.{ℕ, Bool, true, false, not, IsTrue, ◌/◌, ◌%◌, ◌^◌, ◌-◌, ◌==◌, ◌||◌, ◌&&◌, nat_lt, nat_le, bit_and, if◌then◌else◌, Option, Some, None, Result, Ok, Err, ◌≡◌}
+use Rattle.std.specs.Prelude.{ℕ, Bool, not, ◌^◌, ◌==◌, ◌||◌, ◌&&◌, nat_lt, nat_le, if◌then◌else◌, Option, Some, None, Result, Ok, Err, ◌≡◌}
 use Rattle.xe_base.specs.Bits.{bit, only, canonical}
 use Rattle.xe_base.specs.declared.cpu.Cpu.{Cpu}
 use Rattle.xe_base.specs.declared.cpu.Mode.{Mode}

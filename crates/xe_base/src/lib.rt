@@ -4,6 +4,7 @@
 
 pub mod access;
 pub mod cpu;
+pub mod laws;
 pub mod register;
 pub mod segment;
 pub mod word;
