@@ -10,6 +10,7 @@ pub mod bits;
 pub mod conditions;
 pub mod decimals;
 pub mod double_shifts;
+pub mod laws;
 pub mod one_operand;
 pub mod products;
 pub mod quotients;
@@ -28,3 +29,6 @@ pub use quotients::{DivFault, div};
 pub use scans::{ScanOp, scan};
 pub use shifts::{ShiftOp, shift};
 pub use status::{Status, flag, status_of, with_status};
+
+#[cfg(test)]
+mod tests;

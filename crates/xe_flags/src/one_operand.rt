@@ -26,7 +26,6 @@ pub fn unary<const W: u32>(op: UnOp, a: Word<W>, flags: u64) -> (Word<W>, u64)
     ensures flags { result.1 ≡ unary_flags W op a.entry flags }
     ensures kept { SameOthers flags result.1 }
 {
-    let _width = a.get();
     let carry = flag(flags, 0);
     match op {
         UnOp::Inc => {

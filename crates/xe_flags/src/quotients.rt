@@ -76,7 +76,6 @@ fn unsigned_quotient<const W: u32>(
 fn has_room<const W: u32>(kind: Word<W>, negative: bool, n: u128) -> bool
     ensures { result ≡ fits_signed W (with_sign negative n) }
 {
-    let _width = kind.get();
     let half = 1u128 << (W - 1);
     if negative { n <= half } else { n < half }
 }

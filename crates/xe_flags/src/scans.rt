@@ -82,6 +82,10 @@ fn found<const W: u32>(op: ScanOp, a: Word<W>) -> Option<Word<W>>
 /// other five.
 pub fn scan<const W: u32>(op: ScanOp, a: Word<W>, flags: u64) -> (Option<Word<W>>, u64)
     ensures found { result.0 ≡ scan_found op a.entry }
+    ensures none { (result.0 ≡ None) ↔ ((a.entry ≡ 0) × ((op ≡ ScanOp.Count) → ⊥)) }
+    ensures lowest { op ≡ ScanOp.Forward → IfSome result.0 (λ n. IsLowestOne a.entry n) }
+    ensures highest { op ≡ ScanOp.Backward → IfSome result.0 (λ n. IsHighestOne a.entry n) }
+    ensures count { op ≡ ScanOp.Count → result.0 ≡ Some (count_ones a.entry) }
     ensures flags { result.1 ≡ scan_flags op a.entry flags }
     ensures kept { SameOthers flags result.1 }
 {

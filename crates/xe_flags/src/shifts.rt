@@ -27,7 +27,6 @@ pub(crate) fn distance<const W: u32>(kind: Word<W>, count: u8) -> u32
     ensures value { result ≡ distance_of W count }
     ensures bound { result < 64 }
 {
-    let _width = kind.get();
     count as u32 % if W == 64 { 64 } else { 32 }
 }
 
@@ -127,7 +126,6 @@ fn left_through_carry<const W: u32>(a: Word<W>, carry: bool, k: u32) -> (Word<W>
     ensures word { result.0 ≡ carry_left W a.entry carry k % 2 ^ W }
     ensures carry { result.1 ≡ (carry_left W a.entry carry k / 2 ^ W == 1) }
 {
-    let _width = a.get();
     let moved = turned(W + 1, with_carry(a, carry), W + 1 - k % (W + 1));
     (Word::low(moved), moved >> W == 1)
 }
@@ -137,7 +135,6 @@ fn right_through_carry<const W: u32>(a: Word<W>, carry: bool, k: u32) -> (Word<W
     ensures word { result.0 ≡ carry_right W a.entry carry k % 2 ^ W }
     ensures carry { result.1 ≡ (carry_right W a.entry carry k / 2 ^ W == 1) }
 {
-    let _width = a.get();
     let moved = turned(W + 1, with_carry(a, carry), k % (W + 1));
     (Word::low(moved), moved >> W == 1)
 }
