@@ -1,9 +1,7 @@
-use Rattle.std.proofs.Common.{◌≡◌, ◌<◌, ◌≤◌, ◌^◌, arith, refl, rules, sym, subst, ap, ◌∙◌}
-use Rattle.std.specs.Prelude.{IfSome}
+use Rattle.std.proofs.Common.{◌<◌, ◌^◌, arith, rules, ap, ◌∙◌}
 use Rattle.xe_base.specs.Words.{IsWidth}
 use Rattle.xe_base.proofs.WidthLaws.{sizes}
-use Rattle.xe_flags.specs.Scans.{scan_found, IsLowestOne, IsHighestOne}
-use Rattle.xe_flags.specs.declared.scans.ScanOp.TheVariants.{Forward, Backward, Count}
+use Rattle.xe_flags.specs.Scans.{scan_found}
 use Rattle.xe_flags.proofs.ScanLaws.{found_none, found_lowest, found_highest}
 use Rattle.xe_flags.proofs.scans.scan.Goals as goal
 
