@@ -1,0 +1,9 @@
+pub mod ArithmeticLaws
+pub mod BitLaws
+pub mod DecimalLaws
+pub mod DoubleLaws
+pub mod FlagLaws
+pub mod FlagSet
+pub mod MulLaws
+pub mod ScanLaws
+pub mod ShiftLaws

@@ -1,0 +1,11 @@
+pub mod Status
+pub mod Arithmetic
+pub mod OneOperand
+pub mod Products
+pub mod Quotients
+pub mod Bits
+pub mod Scans
+pub mod Conditions
+pub mod Decimals
+pub mod Shifts
+pub mod DoubleShifts
