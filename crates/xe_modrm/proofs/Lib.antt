@@ -1,1 +1,4 @@
 pub mod PrefixLaws
+pub mod ReaderLaws
+pub mod PartLaws
+pub mod ValidLaws

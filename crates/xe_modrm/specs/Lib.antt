@@ -2,3 +2,4 @@ pub mod Reader
 pub mod Prefix
 pub mod Operand
 pub mod Address
+pub mod Valid

@@ -1,5 +1,6 @@
 ghost use Rattle.std.specs.Prelude.{◌≡◌, if◌then◌else◌};
 ghost use Rattle.xe_modrm.specs.Reader.{Within};
+ghost use Rattle.xe_modrm.specs.Valid.{IsGotPrefixes};
 ghost use Rattle.xe_modrm.specs.Prefix.{is_64_bit, is_prefix, prefixes_then, prefix_part};
 
 use crate::part::{Part, Prefixes};
@@ -71,6 +72,7 @@ fn noted(size: CodeSize, found: Prefixes, byte: u8) -> Option<Prefixes>
 pub fn prefixes(size: CodeSize, bytes: &[u8]) -> Part<Prefixes>
     ensures value { result ≡ prefix_part size bytes.now }
     ensures within { Within result bytes.now }
+    ensures valid { IsGotPrefixes size result }
 {
     let mut found = Prefixes {
         lock: false,

@@ -2,10 +2,12 @@
 //! with what belongs to it (SIB byte and displacement) after it.
 #![tactic(auto)]
 
-pub mod address;
-pub mod front;
-pub mod modrm;
-pub mod part;
+mod address;
+mod front;
+mod modrm;
+mod part;
+#[cfg(test)]
+mod tests;
 
 pub use address::{effective_offset, effective_segment};
 pub use front::prefixes;

@@ -1,6 +1,7 @@
-ghost use Rattle.std.specs.Prelude.{◌≡◌, ◌≤◌, ◌<◌, ◌^◌, ◌&&◌, length, ◌==◌, ◌≢◌};
+ghost use Rattle.std.specs.Prelude.{◌≡◌, ◌≤◌, ◌<◌, ◌^◌, ◌&&◌, length, ◌==◌, ◌||◌, ◌≢◌, IsTrue, IfSome};
 ghost use Rattle.xe_modrm.specs.Reader.{one_byte, some_bytes, given, Within};
 ghost use Rattle.xe_modrm.specs.Operand.{is_short, eight, has_sib, disp_len, sib_part, disp_part, short_base, short_index, long_base, long_index, long_scale, operand_of, operand_after, operand_part};
+ghost use Rattle.xe_modrm.specs.Valid.{IsModRm, IsGotModRm};
 
 use crate::front::is_64_bit;
 use crate::part::{ModRm, Part, Prefixes};
@@ -102,6 +103,8 @@ fn displacement(n: usize, bytes: &[u8]) -> Part<i64>
 fn short_registers(m: u8) -> (Option<u8>, Option<u8>)
     ensures base { result.0 ≡ short_base m }
     ensures index { result.1 ≡ short_index m }
+    ensures base_range { IfSome result.0 (λ b. b < 16) }
+    ensures index_range { IfSome result.1 (λ i. i < 16) }
 {
     match m % 8 {
         0 => (Some(3), Some(6)),
@@ -117,7 +120,8 @@ fn short_registers(m: u8) -> (Option<u8>, Option<u8>)
 
 /// The base of a 32-bit or 64-bit address.
 fn long_base(rex: Option<u8>, m: u8, sib: u8) -> Option<u8>
-    ensures { result ≡ long_base rex m sib }
+    ensures value { result ≡ long_base rex m sib }
+    ensures range { IfSome result (λ b. b < 16) }
 {
     let named = if m % 8 == 4 { sib % 8 } else { m % 8 };
     if m / 64 == 0 && named == 5 {
@@ -131,6 +135,8 @@ fn long_base(rex: Option<u8>, m: u8, sib: u8) -> Option<u8>
 fn long_index(rex: Option<u8>, m: u8, sib: u8) -> (Option<u8>, u8)
     ensures index { result.0 ≡ long_index rex m sib }
     ensures scale { result.1 ≡ long_scale rex m sib }
+    ensures index_range { IfSome result.0 (λ i. i < 16) }
+    ensures scale_range { IsTrue (result.1 == 1 || result.1 == 2 || result.1 == 4 || result.1 == 8) }
 {
     let named = sib / 8 % 8 + eight(rex, 1);
     if m % 8 != 4 || named == 4 {
@@ -142,7 +148,8 @@ fn long_index(rex: Option<u8>, m: u8, sib: u8) -> (Option<u8>, u8)
 /// What a ModRM byte means together with its SIB byte and displacement.
 #[tactic(auto, unfolding(crate::specs::Operand::operand_of))]
 fn meaning(size: CodeSize, pre: &Prefixes, m: u8, sib: u8, disp: i64) -> ModRm
-    ensures { result ≡ operand_of size pre.now m sib disp }
+    ensures value { result ≡ operand_of size pre.now m sib disp }
+    ensures valid { IsModRm result }
 {
     let reg = m / 8 % 8 + eight(pre.rex, 2);
     let rm = m % 8 + eight(pre.rex, 0);
@@ -173,6 +180,7 @@ fn meaning(size: CodeSize, pre: &Prefixes, m: u8, sib: u8, disp: i64) -> ModRm
 fn operand_after(size: CodeSize, pre: &Prefixes, m: u8, bytes: &[u8]) -> Part<ModRm>
     ensures value { result ≡ operand_after size pre.now m bytes.now }
     ensures within { Within result bytes.now }
+    ensures valid { IsGotModRm result }
 {
     let short = is_short(size, pre.adsize);
     let Part::Got(sib, used) = sib(has_sib(short, m), bytes) else {
@@ -197,6 +205,7 @@ fn operand_after(size: CodeSize, pre: &Prefixes, m: u8, bytes: &[u8]) -> Part<Mo
 pub fn operand(size: CodeSize, pre: &Prefixes, bytes: &[u8]) -> Part<ModRm>
     ensures value { result ≡ operand_part size pre.now bytes.now }
     ensures within { Within result bytes.now }
+    ensures valid { IsGotModRm result }
 {
     let Part::Got(m, used) = byte(bytes) else {
         return Part::More;

@@ -1,0 +1,6 @@
+pub mod TableLaws
+pub mod OperandLaws
+pub mod GroupLaws
+pub mod DecodeLaws
+pub mod PartsLaws
+pub mod RelationLaws

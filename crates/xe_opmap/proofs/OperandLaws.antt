@@ -1,0 +1,63 @@
+use Rattle.std.proofs.Common.{◌≡◌, ℕ, Bool, true, false, List, [], ◌∷◌, drop, length, ◌+◌, ◌/◌, ◌%◌, refl, arith, sym, ◌∙◌, ap}
+use Rattle.std.specs.Prelude.{pos}
+use Rattle.std.proofs.lemmas.Bool.{le-ltb}
+use Rattle.xe_base.specs.declared.cpu.CodeSize.{CodeSize}
+use Rattle.xe_modrm.specs.declared.part.ModRm.{ModRm}
+use Rattle.xe_opmap.specs.declared.shape.Operand.TheVariants.{Control}
+use Rattle.xe_opmap.specs.Encoding.{operand_rest, modrm_part}
+use Rattle.xe_modrm.specs.declared.part.Part.{Part}
+use Rattle.xe_modrm.specs.declared.part.Part.TheVariants.{Got, More}
+use Rattle.xe_modrm.specs.declared.part.Prefixes.{Prefixes}
+use Rattle.xe_modrm.specs.Reader.{after_bytes, continued, ◌>>=◌, given, one_byte}
+use Rattle.xe_modrm.specs.Operand.{is_short, has_sib, disp_len, sib_part, disp_part, operand_of, operand_after, operand_part}
+
+no_sib : (short : Bool) (m : ℕ) → m / 64 ≡ 3 → has_sib short m ≡ false
+no_sib true m h = refl
+no_sib false m h = rw h refl
+
+no_disp : (short : Bool) (m sib : ℕ) → m / 64 ≡ 3 → disp_len short m sib ≡ 0
+no_disp short m sib h = rw h refl
+
+disp_none : (bytes : List ℕ) → disp_part 0 bytes ≡ Got (pos 0) 0
+disp_none bytes = rw (le-ltb (length bytes) 0 (omega arith)) refl
+
+-- a register operand is its ModRM byte alone
+register_rest : (size : CodeSize) (pre : Prefixes) (m : ℕ) (bytes : List ℕ) → m / 64 ≡ 3 → operand_after size pre m bytes ≡ Got (operand_of size pre m 0 (pos 0)) 0
+unfolding operand_after
+register_rest size pre m bytes h =
+    ap (λ (b : Bool). (sib_part b >>= λ sib. disp_part (disp_len (is_short size pre.adsize) m sib) >>= λ disp. given (operand_of size pre m sib disp)) bytes) (no_sib (is_short size pre.adsize) m h)
+    ∙ ap (λ (n : ℕ). after_bytes 0 (continued (disp_part n bytes) bytes (λ disp. given (operand_of size pre m 0 disp)))) (no_disp (is_short size pre.adsize) m 0 h)
+    ∙ ap (λ p. after_bytes 0 (continued p bytes (λ disp. given (operand_of size pre m 0 disp)))) (disp_none bytes)
+
+pub register_alone : (size : CodeSize) (pre : Prefixes) (m : ℕ) → operand_part size pre ((192 + m % 64) ∷ []) ≡ Got (operand_of size pre (192 + m % 64) 0 (pos 0)) 1
+unfolding operand_part
+register_alone size pre m = ap (after_bytes 1) (register_rest size pre (192 + m % 64) [] (omega arith))
+
+module _ (size : CodeSize) (pre : Prefixes) (bytes : List ℕ) (m used : ℕ) (first : one_byte bytes ≡ Got m used) where
+  pub control_got : (modrm : ModRm) (k : ℕ) → Got modrm k ≡ operand_part size pre ((192 + m % 64) ∷ []) → Got modrm used ≡ modrm_part size pre Control bytes
+  unfolding modrm_part operand_rest
+  control_got modrm k e =
+      let same : Got modrm k ≡ Got (operand_of size pre (192 + m % 64) 0 (pos 0)) 1 = e ∙ register_alone size pre m in
+      let value : modrm ≡ operand_of size pre (192 + m % 64) 0 (pos 0) = cc in
+      let sum : used ≡ used + 0 = omega arith in
+      ap (λ (v : ModRm). Got v used) value ∙ ap (Got (operand_of size pre (192 + m % 64) 0 (pos 0))) sum
+      ∙ sym (ap (λ p. continued p bytes (operand_rest size pre Control)) first)
+
+  pub control_more : More ≡ operand_part size pre ((192 + m % 64) ∷ []) → More ≡ modrm_part size pre Control bytes
+  control_more e =
+      let no_more : More ≡ Got (operand_of size pre (192 + m % 64) 0 (pos 0)) 1 = e ∙ register_alone size pre m in
+      cc
+
+-- one byte and two more parts, grouped in either way
+module _ {A B : Type 0} (f : ℕ → List ℕ → Part A) (g : A → List ℕ → Part B) where
+  after_sum : (n m : ℕ) (p : Part B) → after_bytes (n + m) p ≡ after_bytes n (after_bytes m p)
+  after_sum n m (Got v k) = ap (Got v) (omega arith)
+  after_sum n m More = refl
+
+  regroup : (b : ℕ) (bs : List ℕ) (p : Part A) → continued (after_bytes 1 p) (b ∷ bs) g ≡ after_bytes 1 (continued p bs g)
+  regroup b bs (Got v n) = let e : drop (1 + n) (b ∷ bs) ≡ drop n bs = search (arith) in ap (λ t. after_bytes (1 + n) (g v t)) e ∙ after_sum 1 n (g v (drop n bs))
+  regroup b bs More = refl
+
+  pub one_first : (bytes : List ℕ) → ((one_byte >>= f) >>= g) bytes ≡ (one_byte >>= λ m. f m >>= g) bytes
+  one_first [] = refl
+  one_first (b ∷ bs) = regroup b bs (f b bs)

@@ -1,0 +1,7 @@
+pub mod Names
+pub mod Table
+pub mod Lookup
+pub mod Immediate
+pub mod Encoding
+pub mod Valid
+pub mod Relations

@@ -1,0 +1,327 @@
+ghost use Rattle.std.specs.Prelude.{◌≡◌, ◌≤◌, ◌<◌, length};
+ghost use Rattle.xe_modrm.specs.Reader.{Within, one_byte};
+ghost use Rattle.xe_opmap.specs.Table.{bad_in_64_bit, IsOpcode};
+ghost use Rattle.std.specs.Option.{ForSome};
+ghost use Rattle.xe_modrm.specs.Valid.{IsPrefixes, IsModRm, IsGotModRm};
+ghost use Rattle.xe_opmap.specs.Valid.{is_address, is_offset, IsCellOf, IsGotVerdict, TakesSome, IsDecoded};
+ghost use Rattle.xe_opmap.specs.Relations.{Answers};
+ghost use Rattle.xe_opmap.specs.Encoding.{immediates_part, modrm_part, operand_row, row_part, is_swapgs, swapgs_cell, group_cell, group_part, cell_part, after_opcode, after_first_byte, decode_part, finished};
+
+use crate::immediate::{first, second};
+use crate::insn::{Decoded, Insn, Verdict};
+use crate::judge::{ends_outside, has_modrm, judged};
+use crate::lookup::{cell_at, needs_reg};
+use crate::row::Row;
+use crate::shape::{Cell, Imm, Operand, Setting, Shape, Width};
+use crate::sizes::{adsize_of, is_64_bit, opsize_of, setting_of};
+use xe_base::CodeSize;
+use xe_modrm::{ModRm, Part, Prefixes, operand, prefixes};
+
+/// The immediates, after which the instruction is judged.
+#[tactic(auto, unfolding(crate::specs::Encoding::immediates_part))]
+fn immediates_part(
+    size: CodeSize,
+    pre: &Prefixes,
+    op: u16,
+    shape: &Shape,
+    modrm: Option<ModRm>,
+    bytes: &[u8],
+) -> Part<Verdict>
+    requires prefixes { IsPrefixes size pre.now }
+    requires opcode { IsOpcode op }
+    requires modrm { ForSome modrm IsModRm }
+    requires address { is_address shape.now.imm ≡ is_offset op }
+    ensures value { result ≡ immediates_part size pre.now op shape.now modrm bytes.now }
+    ensures within { Within result bytes.now }
+    ensures valid { IsGotVerdict size result }
+{
+    let opsize = opsize_of(size, pre, shape.width);
+    let adsize = adsize_of(size, pre.adsize);
+    let Part::Got(imm, used) = first(opsize, adsize, shape.imm, bytes) else {
+        return Part::More;
+    };
+    let Part::Got(imm2, more) = second(shape.imm, &bytes[used..]) else {
+        return Part::More;
+    };
+    Part::Got(judged(size, pre, op, shape, modrm, imm, imm2), used + more)
+}
+
+/// One byte.
+fn byte(bytes: &[u8]) -> Part<u8>
+    ensures value { result ≡ one_byte bytes.now }
+    ensures within { Within result bytes.now }
+    ensures some { TakesSome result }
+{
+    match bytes {
+        [] => Part::More,
+        [first, ..] => Part::Got(*first, 1),
+    }
+}
+
+/// The operand of MOV to and from control registers, whose mod is read as 3.
+#[tactic(auto, unfolding(crate::specs::Encoding::modrm_part))]
+fn control_operand(size: CodeSize, pre: &Prefixes, bytes: &[u8]) -> Part<ModRm>
+    ensures value { result ≡ modrm_part size pre.now Operand.Control bytes.now }
+    ensures within { Within result bytes.now }
+    ensures valid { IsGotModRm result }
+{
+    let Part::Got(m, used) = byte(bytes) else {
+        return Part::More;
+    };
+    match operand(size, pre, &[0xC0 + m % 64]) {
+        Part::Got(modrm, _) => Part::Got(modrm, used),
+        Part::More => Part::More,
+    }
+}
+
+/// The ModRM byte, and what follows it in the operand.
+#[tactic(auto, unfolding(crate::specs::Encoding::modrm_part, crate::specs::Encoding::operand_rest, xe_modrm::specs::Operand::operand_part))]
+fn modrm_part(size: CodeSize, pre: &Prefixes, kind: Operand, bytes: &[u8]) -> Part<ModRm>
+    ensures value { result ≡ modrm_part size pre.now kind bytes.now }
+    ensures within { Within result bytes.now }
+    ensures valid { IsGotModRm result }
+{
+    match kind {
+        Operand::Control => control_operand(size, pre, bytes),
+        Operand::Nothing
+        | Operand::Any
+        | Operand::Memory
+        | Operand::MemoryOnly
+        | Operand::FromSegment
+        | Operand::ToSegment => operand(size, pre, bytes),
+    }
+}
+
+/// A row with a ModRM byte, after its opcode.
+#[tactic(auto, unfolding(crate::specs::Encoding::operand_row, crate::specs::Encoding::after_operand))]
+fn operand_row(
+    size: CodeSize,
+    pre: &Prefixes,
+    op: u16,
+    shape: &Shape,
+    bytes: &[u8],
+) -> Part<Verdict>
+    requires prefixes { IsPrefixes size pre.now }
+    requires opcode { IsOpcode op }
+    requires address { is_address shape.now.imm ≡ is_offset op }
+    ensures value { result ≡ operand_row size pre.now op shape.now bytes.now }
+    ensures within { Within result bytes.now }
+    ensures valid { IsGotVerdict size result }
+{
+    let Part::Got(modrm, used) = modrm_part(size, pre, shape.operand, bytes) else {
+        return Part::More;
+    };
+    if ends_outside(shape.operand, &modrm) {
+        return Part::Got(Verdict::Outside, used);
+    }
+    match immediates_part(size, pre, op, shape, Some(modrm), &bytes[used..]) {
+        Part::Got(verdict, more) => Part::Got(verdict, used + more),
+        Part::More => Part::More,
+    }
+}
+
+/// A row, after its opcode.
+#[tactic(auto, unfolding(crate::specs::Encoding::row_part))]
+fn row_part(size: CodeSize, pre: &Prefixes, op: u16, shape: &Shape, bytes: &[u8]) -> Part<Verdict>
+    requires prefixes { IsPrefixes size pre.now }
+    requires opcode { IsOpcode op }
+    requires address { is_address shape.now.imm ≡ is_offset op }
+    ensures value { result ≡ row_part size pre.now op shape.now bytes.now }
+    ensures within { Within result bytes.now }
+    ensures valid { IsGotVerdict size result }
+{
+    if has_modrm(shape.operand) {
+        operand_row(size, pre, op, shape, bytes)
+    } else {
+        immediates_part(size, pre, op, shape, None, bytes)
+    }
+}
+
+/// Whether an opcode is invalid in 64-bit code.
+fn is_bad_in_64_bit(op: u16) -> bool
+    ensures { result ≡ bad_in_64_bit op }
+{
+    matches!(
+        op,
+        0x06 | 0x07
+            | 0x0E
+            | 0x16
+            | 0x17
+            | 0x1E
+            | 0x1F
+            | 0x27
+            | 0x2F
+            | 0x37
+            | 0x3F
+            | 0x60
+            | 0x61
+            | 0x82
+            | 0x9A
+            | 0xCE
+            | 0xD4
+            | 0xD5
+            | 0xEA
+    )
+}
+
+/// SWAPGS, which is there in 64-bit code alone.
+fn swapgs_cell(long: bool) -> Cell
+    ensures value { result ≡ swapgs_cell long }
+    ensures address { IsCellOf 0x0F01 result }
+{
+    if !long {
+        return Cell::Invalid;
+    }
+    Cell::Plain(Shape {
+        row: Row::Swapgs,
+        operand: Operand::Any,
+        imm: Imm::Nothing,
+        lock: false,
+        width: Width::Usual,
+    })
+}
+
+/// What an opcode with the ModRM byte m is, where the reg field belongs to the opcode.
+#[tactic(auto, unfolding(crate::specs::Encoding::group_cell))]
+fn group_cell(setting: Setting, op: u16, m: u8) -> Cell
+    requires { IsOpcode op }
+    ensures value { result ≡ group_cell setting op m }
+    ensures address { IsCellOf op result }
+{
+    if op == 0x0F01 && m == 0xF8 {
+        return swapgs_cell(setting.long);
+    }
+    cell_at(setting, op, m / 8 % 8)
+}
+
+/// The ModRM byte of a group, and what follows it.
+#[tactic(auto, unfolding(crate::specs::Encoding::group_part))]
+fn group_part(size: CodeSize, pre: &Prefixes, op: u16, bytes: &[u8]) -> Part<Verdict>
+    requires opcode { IsOpcode op }
+    requires prefixes { IsPrefixes size pre.now }
+    ensures value { result ≡ group_part size pre.now op bytes.now }
+    ensures within { Within result bytes.now }
+    ensures valid { IsGotVerdict size result }
+{
+    let Part::Got(m, used) = byte(bytes) else {
+        return Part::More;
+    };
+    match group_cell(setting_of(size, pre), op, m) {
+        Cell::Outside => Part::Got(Verdict::Outside, used),
+        Cell::Invalid => Part::Got(Verdict::Invalid, used),
+        Cell::Plain(shape) => operand_row(size, pre, op, &shape, bytes),
+    }
+}
+
+/// What a place of the opcode maps says.
+#[tactic(auto, unfolding(crate::specs::Encoding::cell_part))]
+fn cell_part(size: CodeSize, pre: &Prefixes, op: u16, cell: Cell, bytes: &[u8]) -> Part<Verdict>
+    requires prefixes { IsPrefixes size pre.now }
+    requires opcode { IsOpcode op }
+    requires address { IsCellOf op cell }
+    ensures value { result ≡ cell_part size pre.now op cell bytes.now }
+    ensures within { Within result bytes.now }
+    ensures valid { IsGotVerdict size result }
+{
+    match cell {
+        Cell::Outside => Part::Got(Verdict::Outside, 0),
+        Cell::Invalid => Part::Got(Verdict::Invalid, 0),
+        Cell::Plain(shape) => row_part(size, pre, op, &shape, bytes),
+    }
+}
+
+/// What follows an opcode.
+#[tactic(auto, unfolding(crate::specs::Encoding::after_opcode))]
+fn after_opcode(size: CodeSize, pre: &Prefixes, op: u16, bytes: &[u8]) -> Part<Verdict>
+    requires opcode { IsOpcode op }
+    requires prefixes { IsPrefixes size pre.now }
+    ensures value { result ≡ after_opcode size pre.now op bytes.now }
+    ensures within { Within result bytes.now }
+    ensures valid { IsGotVerdict size result }
+{
+    if is_64_bit(size) & is_bad_in_64_bit(op) {
+        return Part::Got(Verdict::Invalid, 0);
+    }
+    if needs_reg(op) {
+        return group_part(size, pre, op, bytes);
+    }
+    cell_part(size, pre, op, cell_at(setting_of(size, pre), op, 0), bytes)
+}
+
+/// What follows the first byte of an opcode: 0F has a second one.
+#[tactic(auto, unfolding(crate::specs::Encoding::after_first_byte))]
+fn after_first_byte(size: CodeSize, pre: &Prefixes, first: u8, bytes: &[u8]) -> Part<Verdict>
+    requires { IsPrefixes size pre.now }
+    ensures value { result ≡ after_first_byte size pre.now first bytes.now }
+    ensures within { Within result bytes.now }
+    ensures valid { IsGotVerdict size result }
+{
+    if first != 0x0F {
+        return after_opcode(size, pre, first as u16, bytes);
+    }
+    let Part::Got(second, used) = byte(bytes) else {
+        return Part::More;
+    };
+    match after_opcode(size, pre, 0x0F00 + second as u16, &bytes[used..]) {
+        Part::Got(verdict, more) => Part::Got(verdict, used + more),
+        Part::More => Part::More,
+    }
+}
+
+/// What some bytes begin with, and how many of them decide it.
+#[tactic(auto, unfolding(crate::specs::Encoding::decode_part))]
+fn decode_part(size: CodeSize, bytes: &[u8]) -> Part<Verdict>
+    ensures value { result ≡ decode_part size bytes.now }
+    ensures within { Within result bytes.now }
+    ensures valid { IsGotVerdict size result }
+    ensures some { TakesSome result }
+{
+    let Part::Got(pre, used) = prefixes(size, bytes) else {
+        return Part::More;
+    };
+    let rest = &bytes[used..];
+    let Part::Got(first, more) = byte(rest) else {
+        return Part::More;
+    };
+    let used = used + more;
+    match after_first_byte(size, &pre, first, &rest[more..]) {
+        Part::Got(verdict, more) => Part::Got(verdict, used + more),
+        Part::More => Part::More,
+    }
+}
+
+/// The answer of the decoder.
+fn answer(size: CodeSize, bytes: &[u8]) -> Decoded
+    requires { length bytes.now ≤ 15 }
+    ensures value { result ≡ finished (decode_part size bytes.now) }
+    ensures ranges { IsDecoded size result }
+{
+    match decode_part(size, bytes) {
+        Part::Got(Verdict::Valid(insn), len) => Decoded::Insn(Insn {
+            len: len as u8,
+            ..insn
+        }),
+        Part::Got(Verdict::Invalid, len) => Decoded::Invalid(len as u8),
+        Part::Got(Verdict::Outside, _) => Decoded::Outside,
+        Part::More => Decoded::More,
+    }
+}
+
+/// What `bytes` begins with, by the opcode maps of this crate.
+///
+/// `Insn` is an instruction of the table, whose bytes are prefixes, opcode, ModRM byte, SIB byte,
+/// displacement and immediates (SDM volume 2, chapter 2 and appendix A). `Invalid` comes where the
+/// manual has #UD: at the opcode, at the ModRM byte, or after the whole instruction (LOCK where it
+/// isn't allowed, a register where memory is wanted, a segment or control register that there is
+/// not). `Outside` comes at the first byte from which the table has no row and nothing invalid.
+/// `More` comes exactly where the bytes end before one of these is decided.
+pub fn decode(size: CodeSize, bytes: &[u8]) -> Decoded
+    requires { length bytes.now ≤ 15 }
+    // the grammar
+    ensures value { result ≡ finished (decode_part size bytes.now) }
+    // the relations of encodings
+    ensures answers { Answers size bytes.now result }
+    ensures ranges { IsDecoded size result }
+{
+    answer(size, bytes)
+}

@@ -1,0 +1,125 @@
+ghost use Rattle.std.specs.Prelude.{◌≡◌, ◌≤◌, ◌<◌, ◌^◌, ◌*◌, ◌+◌, ◌||◌, ◌==◌, IsTrue};
+ghost use Rattle.xe_modrm.specs.Reader.{Within};
+ghost use Rattle.xe_opmap.specs.Encoding.{IsSize};
+ghost use Rattle.xe_opmap.specs.Valid.{imm_width};
+ghost use Rattle.xe_opmap.specs.Immediate.{IsBytes, IsCount, full_len, second_len, extended, number_part, extended_part, first_part, second_part};
+
+use crate::shape::Imm;
+use xe_modrm::Part;
+
+/// How many bytes an iz immediate has.
+fn full_len(opsize: u8) -> usize
+    ensures value { result ≡ full_len opsize }
+    ensures count { IsCount result }
+{
+    if opsize == 2 { 2 } else { 4 }
+}
+
+/// How many bytes the second immediate has.
+fn second_len(imm: Imm) -> usize
+    ensures value { result ≡ second_len imm }
+    ensures count { IsCount result }
+    ensures bound { result ≤ 2 }
+{
+    match imm {
+        Imm::Far => 2,
+        Imm::Frame => 1,
+        _ => 0,
+    }
+}
+
+/// A number of n bytes, the lowest first.
+#[tactic(auto, unfolding(xe_base::specs::Bytes::num))]
+fn number(n: usize, bytes: &[u8]) -> Part<u64>
+    requires { IsCount n }
+    ensures value { result ≡ number_part n bytes.now }
+    ensures bytes { IsBytes n result }
+    ensures within { Within result bytes.now }
+{
+    if bytes.len() < n {
+        return Part::More;
+    }
+    let number = match &bytes[..n] {
+        [] => 0,
+        [a] => u64::from(*a),
+        [a, b] => u64::from(u16::from_le_bytes([*a, *b])),
+        [a, b, c, d] => u64::from(u32::from_le_bytes([*a, *b, *c, *d])),
+        [a, b, c, d, e, f, g, h] => u64::from_le_bytes([*a, *b, *c, *d, *e, *f, *g, *h]),
+        _ => unreachable!(),
+    };
+    Part::Got(number, n)
+}
+
+/// n bytes of ones.
+fn ones(n: usize) -> u64
+    requires { IsTrue (n == 1 || n == 2 || n == 4 || n == 8) }
+    ensures { result + 1 ≡ 2 ^ (8 * n) }
+{
+    match n {
+        1 => 0xFF,
+        2 => 0xFFFF,
+        4 => 0xFFFF_FFFF,
+        _ => u64::MAX,
+    }
+}
+
+/// A number of n bytes, sign-extended to the operand size.
+fn extended(n: usize, opsize: u8, x: u64) -> u64
+    requires opsize { IsSize opsize }
+    requires n { IsTrue (n == 1 || n == 2 || n == 4) }
+    requires order { n ≤ opsize }
+    requires number { x < 2 ^ (8 * n) }
+    ensures value { result ≡ extended n opsize x }
+    ensures range { result < 2 ^ (8 * opsize) }
+{
+    if x <= ones(n) / 2 {
+        x
+    } else {
+        x + (ones(opsize as usize) - ones(n))
+    }
+}
+
+/// The second immediate.
+pub fn second(imm: Imm, bytes: &[u8]) -> Part<u16>
+    ensures value { result ≡ second_part imm bytes.now }
+    ensures within { Within result bytes.now }
+{
+    match number(second_len(imm), bytes) {
+        Part::Got(number, used) => Part::Got(number as u16, used),
+        Part::More => Part::More,
+    }
+}
+
+/// A number of n bytes, sign-extended to the operand size.
+fn extended_number(n: usize, opsize: u8, bytes: &[u8]) -> Part<u64>
+    requires opsize { IsSize opsize }
+    requires n { IsTrue (n == 1 || n == 2 || n == 4) }
+    requires order { n ≤ opsize }
+    ensures value { result ≡ extended_part n opsize bytes.now }
+    ensures range { IsBytes opsize result }
+    ensures within { Within result bytes.now }
+{
+    match number(n, bytes) {
+        Part::Got(number, used) => Part::Got(extended(n, opsize, number), used),
+        Part::More => Part::More,
+    }
+}
+
+/// The first immediate, by operand size and address size.
+pub fn first(opsize: u8, adsize: u8, imm: Imm, bytes: &[u8]) -> Part<u64>
+    requires opsize { IsSize opsize }
+    requires adsize { IsSize adsize }
+    ensures value { result ≡ first_part opsize adsize imm bytes.now }
+    ensures range { IsBytes (imm_width opsize adsize imm) result }
+    ensures within { Within result bytes.now }
+{
+    match imm {
+        Imm::Nothing => number(0, bytes),
+        Imm::Byte => number(1, bytes),
+        Imm::SignedByte => extended_number(1, opsize, bytes),
+        Imm::Pair | Imm::Frame => number(2, bytes),
+        Imm::Full => extended_number(full_len(opsize), opsize, bytes),
+        Imm::Whole | Imm::Far => number(opsize as usize, bytes),
+        Imm::Address => number(adsize as usize, bytes),
+    }
+}

@@ -1,0 +1,108 @@
+ghost use Rattle.std.specs.Prelude.{◌≡◌, ◌<◌, ◌*◌, ◌^◌};
+ghost use Rattle.std.specs.Option.{ForSome};
+ghost use Rattle.xe_modrm.specs.Valid.{IsPrefixes, IsModRm};
+ghost use Rattle.xe_opmap.specs.Table.{IsOpcode};
+ghost use Rattle.xe_opmap.specs.Valid.{imm_width, is_address, is_offset, IsVerdict};
+ghost use Rattle.xe_opmap.specs.Encoding.{opsize_of, adsize_of, is_memory, is_control, wrong_operand, is_wrong, judged, ends_outside, has_modrm};
+
+use crate::insn::{Insn, Verdict};
+use crate::shape::{Operand, Shape};
+use crate::sizes::{adsize_of, opsize_of};
+use xe_base::CodeSize;
+use xe_modrm::{ModRm, Prefixes};
+
+/// Whether an operand is in memory.
+fn is_memory(modrm: &Option<ModRm>) -> bool
+    ensures { result ≡ is_memory modrm.now }
+{
+    match modrm {
+        Some(modrm) => modrm.md != 3,
+        None => false,
+    }
+}
+
+/// Whether there is a control register of this number.
+fn is_control(n: u8) -> bool
+    ensures { result ≡ is_control n }
+{
+    matches!(n, 0 | 2 | 3 | 4 | 8)
+}
+
+/// Whether an operand is of a kind that its row doesn't have.
+fn wrong_operand(kind: Operand, modrm: &Option<ModRm>) -> bool
+    ensures { result ≡ wrong_operand kind modrm.now }
+{
+    let Some(modrm) = modrm else {
+        return false;
+    };
+    match kind {
+        Operand::Nothing | Operand::Any | Operand::MemoryOnly => false,
+        Operand::Memory => modrm.md == 3,
+        Operand::FromSegment => modrm.reg % 8 >= 6,
+        Operand::ToSegment => (modrm.reg % 8 >= 6) | (modrm.reg % 8 == 1),
+        Operand::Control => !is_control(modrm.reg),
+    }
+}
+
+/// Whether LOCK isn't allowed, or the operand is of a wrong kind.
+fn is_wrong(pre: &Prefixes, shape: &Shape, modrm: &Option<ModRm>) -> bool
+    ensures { result ≡ is_wrong pre.now shape.now modrm.now }
+{
+    let locked = shape.lock & is_memory(modrm);
+    (pre.lock & !locked) | wrong_operand(shape.operand, modrm)
+}
+
+/// Judges a whole instruction.
+#[tactic(auto, unfolding(crate::specs::Encoding::judged))]
+pub fn judged(
+    size: CodeSize,
+    pre: &Prefixes,
+    op: u16,
+    shape: &Shape,
+    modrm: Option<ModRm>,
+    imm: u64,
+    imm2: u16,
+) -> Verdict
+    requires prefixes { IsPrefixes size pre.now }
+    requires opcode { IsOpcode op }
+    requires modrm { ForSome modrm IsModRm }
+    requires imm { imm < 2 ^ (8 * imm_width (opsize_of size pre.now shape.now.width) (adsize_of size pre.now.adsize) shape.now.imm) }
+    requires address { is_address shape.now.imm ≡ is_offset op }
+    ensures value { result ≡ judged size pre.now op shape.now modrm imm imm2 }
+    ensures valid { IsVerdict size result }
+{
+    if is_wrong(pre, shape, &modrm) {
+        return Verdict::Invalid;
+    }
+    Verdict::Valid(Insn {
+        row: shape.row,
+        len: 0,
+        opcode: op,
+        opsize: opsize_of(size, pre, shape.width),
+        adsize: adsize_of(size, pre.adsize),
+        pre: *pre,
+        modrm,
+        imm,
+        imm2,
+    })
+}
+
+/// Whether no row goes on with an operand.
+pub fn ends_outside(kind: Operand, modrm: &ModRm) -> bool
+    ensures { result ≡ ends_outside kind modrm.now }
+{
+    match kind {
+        Operand::MemoryOnly => modrm.md == 3,
+        _ => false,
+    }
+}
+
+/// Whether a ModRM byte follows the opcode.
+pub fn has_modrm(kind: Operand) -> bool
+    ensures { result ≡ has_modrm kind }
+{
+    match kind {
+        Operand::Nothing => false,
+        _ => true,
+    }
+}
