@@ -1,0 +1,2 @@
+pub mod SvmRows
+pub mod PortLaws

@@ -1,0 +1,134 @@
+//! The set of SVM intercepts (AMD64 APM volume 2, "Intercept Operation").
+
+ghost use Rattle.std.specs.Prelude.{◌≡◌, ◌≢◌, ◌↔◌, ℕ, ◌+◌, ◌<◌, ◌≤◌, ◌||◌, ◌&&◌, nat_le, [], ◌∷◌, ◌++◌, length, true, false, Option};
+ghost use Rattle.std.specs.Int.RustNames.{bit_or};
+ghost use Rattle.bitflags.specs.Sets.{without};
+
+use crate::exit::Exit;
+use crate::intercepts::Intercepts;
+use crate::point::Point;
+use crate::port_bitmap::{PORT_WORDS, any_port, set_ports};
+use crate::svm_name::SvmName;
+use crate::svm_table::{exit_of, name_of};
+use arrayvec::ArrayVec;
+use bitflags::Flags;
+use std::marker::Model;
+
+/// A model-specific register with a direction of access.
+#[derive(Clone, Copy, Drop, PartialEq, Eq, Debug, Default)]
+pub struct MsrPair {
+    pub number: u32,
+    pub write: bool,
+}
+
+/// A set of SVM intercepts: names, a bitmap of the 65,536 ports, and at most 64 pairs of an MSR
+/// and a direction.
+///
+/// Ports and pairs matter where the names IOIO and MSR are set. An MSR that isn't listed is never
+/// intercepted, and the bitmap has no bits past port FFFFh, so that later bytes of an access count
+/// as port 0 and up (both this project's choice).
+#[derive(Drop)]
+pub struct SvmSet {
+    names: SvmName,
+    ports: [u64; 1024],
+    msrs: ArrayVec<MsrPair, 64>,
+}
+
+impl Model for SvmSet {
+    ghost use Rattle.xe_icpt.specs.SvmSet.{Svm};
+
+    ghost Value = { Svm };
+
+    ghost view = { λ s. record { names = s.names.0; ports = s.ports; msrs = s.msrs.items } };
+}
+
+impl SvmSet {
+    ghost use Rattle.std.specs.Prelude.{replicate};
+    ghost use Rattle.xe_icpt.specs.SvmSet.{bits_of, port_bit, has_msr, svm_asks};
+
+    /// The set that intercepts nothing.
+    pub fn new() -> SvmSet
+        ensures { result ≡ record { names = 0; ports = replicate 1024 0; msrs = [] } }
+    {
+        SvmSet {
+            names: SvmName::empty(),
+            ports: [0; PORT_WORDS],
+            msrs: ArrayVec::new(),
+        }
+    }
+
+    /// Adds these names.
+    pub fn set(&mut self, name: SvmName)
+        ensures { self.new ≡ record self.old { names = bit_or self.old.names (bits_of name) } }
+    {
+        self.names.insert(name);
+    }
+
+    /// Takes these names away.
+    pub fn clear(&mut self, name: SvmName)
+        ensures { self.new ≡ record self.old { names = without 64 self.old.names (bits_of name) } }
+    {
+        self.names.remove(name);
+    }
+
+    /// Adds the ports from `low` to `high`.
+    pub fn ports(&mut self, low: u16, high: u16)
+        requires { low ≤ high }
+        ensures added { (port : ℕ) → port < 65536 → port_bit self.new.ports port ≡ (port_bit self.old.ports port || (nat_le low port && nat_le port high)) }
+        ensures rest { self.new ≡ record self.old { ports = self.new.ports } }
+    {
+        set_ports(&mut self.ports, low, high);
+    }
+
+    /// Adds an MSR with a direction; the answer is false exactly where 64 other pairs are held.
+    pub fn msr(&mut self, number: u32, write: bool) -> bool
+        ensures refused { (result ≡ false) ↔ ((has_msr self.old.msrs number write ≡ false) × (length self.old.msrs ≡ 64)) }
+        ensures held { has_msr self.old.msrs number write ≡ true → self.new ≡ self.old }
+        ensures full { result ≡ false → self.new ≡ self.old }
+        ensures added { has_msr self.old.msrs number write ≡ false → result ≡ true → self.new ≡ record self.old { msrs = self.old.msrs ++ record { number = number; write = write } ∷ [] } }
+    {
+        let pair = MsrPair { number, write };
+        if self.has_msr(pair) {
+            return true;
+        }
+        if self.msrs.is_full() {
+            return false;
+        }
+        self.msrs.push(pair);
+        true
+    }
+
+    /// Whether the pair is held.
+    fn has_msr(&self, pair: MsrPair) -> bool
+        ensures { result ≡ has_msr self.now.msrs pair.number pair.write }
+    {
+        self.msrs
+            .iter()
+            .any(|m| m.number == pair.number && m.write == pair.write)
+    }
+
+    /// Whether the port or the MSR of a point is set; true for all other points.
+    fn asks(&self, p: &Point) -> bool
+        ensures { result ≡ svm_asks self.now p.now }
+    {
+        match *p {
+            Point::Io { port, size, .. } => any_port(&self.ports, port, size),
+            Point::Msr { number, write } => self.has_msr(MsrPair { number, write }),
+            _ => true,
+        }
+    }
+}
+
+impl Intercepts for SvmSet {
+    ghost use Rattle.xe_icpt.specs.SvmSet.{svm_hit};
+
+    ghost hits = { svm_hit };
+
+    fn check(&self, p: &Point) -> Option<Exit> {
+        if self.names.contains(name_of(p)) && self.asks(p) {
+            Some(exit_of(p))
+        } else {
+            None
+        }
+    }
+}

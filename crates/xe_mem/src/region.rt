@@ -1,0 +1,131 @@
+//! Where RAM lies, and why a list of regions is refused.
+
+ghost use Rattle.std.specs.Prelude.{◌≡◌, ℕ, ◌+◌, ◌^◌, ◌<◌, ◌≤◌, length, take, sum_by, true, false, MatchOption};
+ghost use Rattle.xe_mem.specs.Layout.{covers, fits_after, follow, total};
+ghost use Rattle.xe_mem.specs.Flat.{place, gap_behind};
+
+use arrayvec::ArrayVec;
+use thiserror::Error;
+
+/// The most regions that a guest may have.
+pub const MAX_REGIONS: usize = 16;
+
+/// The most bytes that all regions may have together.
+pub const MAX_BYTES: u64 = 1 << 24;
+
+/// The size of a page, of which a region has a whole number.
+const PAGE: u64 = 0x1000;
+
+/// The first address that no region reaches: physical addresses have 40 bits.
+const ADDRESS_END: u64 = 1 << 40;
+
+/// A range of guest physical addresses that is RAM.
+#[derive(Clone, Copy, Drop, PartialEq, Eq, Debug, Default)]
+pub struct Region {
+    /// Its first address.
+    pub start: u64,
+    /// Its length in bytes.
+    pub len: u64,
+}
+
+/// Why no guest memory was made: the reasons 1 to 3, in this order.
+#[derive(Clone, Copy, Drop, PartialEq, Eq, Debug, Error)]
+pub enum MemFault {
+    #[error("there is no memory for the guest's RAM")]
+    NoMemory,
+    /// The index of the first bad region: its start or length is no multiple of a page's size, it
+    /// is empty, it ends past 2^40, or it begins below the end of the region before it.
+    #[error("region {0} is no range of whole pages behind the region before it")]
+    BadRegion(u32),
+    /// More than 16 regions, or more than 16 MiB in all.
+    #[error("the regions are too many or too large")]
+    TooLarge,
+}
+
+impl Region {
+    /// Whether the address is in the region.
+    #[tactic(auto, using(std::proofs::lemmas::Bool::Decides::nat_tests), unfolding(crate::specs::Layout::covers))]
+    pub(crate) fn covers(&self, pa: u64) -> bool
+        ensures { result ≡ covers self.now pa }
+    {
+        self.start <= pa && pa - self.start < self.len
+    }
+
+    /// Whether the region is some whole pages below 2^40, from `low` on.
+    #[tactic(auto, using(std::proofs::lemmas::Bool::Decides::nat_tests), unfolding(crate::specs::Layout::fits_after))]
+    pub(crate) fn fits_after(&self, low: u64) -> bool
+        ensures { result ≡ fits_after low self.now }
+    {
+        self.start % PAGE == 0
+            && self.len % PAGE == 0
+            && self.len > 0
+            && self.len <= ADDRESS_END
+            && self.start <= ADDRESS_END - self.len
+            && low <= self.start
+    }
+}
+
+/// Where the byte at `pa` lies, if those of all regions stand one region after another; their
+/// number, where `pa` isn't RAM.
+pub(crate) fn position(regions: &[Region], pa: u64) -> usize
+    requires { total regions.now < 2 ^ 63 }
+    ensures { result ≡ place regions.now pa }
+{
+    let mut before = 0u64;
+    for region in regions {
+        if region.covers(pa) {
+            return (before + (pa - region.start)) as usize;
+        }
+        before += region.len;
+    }
+    before as usize
+}
+
+/// The first address from `from` on that is in none of these regions.
+pub(crate) fn gap_from(regions: &[Region], from: u64) -> u64
+    requires { follow 0 regions.now ≡ true }
+    ensures { result ≡ gap_behind regions.now from }
+{
+    let mut gap = from;
+    for region in regions {
+        if region.covers(gap) {
+            gap = region.start + region.len;
+        }
+    }
+    gap
+}
+
+/// The index of the first region that doesn't fit after the ones before it.
+pub(crate) fn first_bad(list: &[Region]) -> Option<usize>
+    ensures { MatchOption result (follow 0 list.now ≡ true) (λ i. (i < length list.now) × (follow 0 (take i list.now) ≡ true) × (follow 0 (take (i + 1) list.now) ≡ false)) }
+{
+    let mut low = 0;
+    for (i, region) in list.iter().enumerate() {
+        if !region.fits_after(low) {
+            return Some(i);
+        }
+        low = region.start + region.len;
+    }
+    None
+}
+
+/// How many bytes all regions have together.
+#[tactic(auto, unfolding(crate::specs::Layout::total))]
+pub(crate) fn total_len(list: &[Region]) -> u64
+    requires { total list.now < 2 ^ 63 }
+    ensures { result ≡ total list.now }
+{
+    list.iter().map(|region| region.len).sum()
+}
+
+/// The regions in a list of their own.
+pub(crate) fn copy_of(list: &[Region]) -> ArrayVec<Region, 16>
+    requires { length list.now ≤ 16 }
+    ensures { result.items ≡ list.now }
+{
+    let mut regions = ArrayVec::new();
+    for region in list {
+        regions.push(*region);
+    }
+    regions
+}
