@@ -1,0 +1,9 @@
+pub mod Parts
+pub mod Device
+pub mod RamLaws
+pub mod Banks
+pub mod FetchLaws
+pub mod Valid
+pub mod RowLaws
+pub mod CallLaws
+pub mod Worked

@@ -1,0 +1,14 @@
+pub mod State
+pub mod Regions
+pub mod Areas
+pub mod Machine
+pub mod Tape
+pub mod Tree
+pub mod Step
+pub mod Fetch
+pub mod Rows
+pub mod Is
+pub mod View
+pub mod Finishes
+pub mod Emulate
+pub mod Worked
