@@ -7,3 +7,4 @@ pub mod Valid
 pub mod RowLaws
 pub mod CallLaws
 pub mod Worked
+pub mod TestLaws

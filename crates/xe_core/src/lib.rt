@@ -20,3 +20,6 @@ pub use call::emulate;
 pub use machine::{Machine, NotRam};
 pub use region::Region;
 pub use report::{Handoff, Outcome, Report, Row};
+
+#[cfg(test)]
+mod tests;
