@@ -1,0 +1,61 @@
+-- A scripted bus as a tape.
+use mathlib.Core.Path.{fun_ext}
+use Rattle.std.proofs.Common.{◌≡◌, ℕ, ◌+◌, ◌<◌, Bool, true, false, List, [], ◌∷◌, ◌++◌, length, take, drop, map, Some, refl, sym, ap, ◌∙◌, if◌then◌else◌}
+use Rattle.std.specs.List.{slice_get}
+use Rattle.std.specs.BTreeMap.{BTreeMap}
+use Rattle.std.proofs.lemmas.List.{map-append, drop-map}
+use Rattle.std.proofs.lemmas.List.Sums.{sum_by_more}
+use Rattle.std.proofs.lemmas.Option.{get_or_from_slice_get}
+use Rattle.xe_base.specs.declared.access.Access.{Access}
+use Rattle.xe_core.specs.Tape as tapes
+use Rattle.xe_core.specs.Tape.{Key, same_key, with_queue, first_reply}
+use Rattle.xe_scene.specs.declared.command.Command.{Command}
+use Rattle.xe_scene.specs.declared.command.Item.{Item}
+use Rattle.xe_scene.specs.declared.command.Item.TheVariants.{Value}
+use Rattle.xe_scene.specs.declared.queue.QueueName.{QueueName}
+use Rattle.xe_scene.specs.Queued.{Queued, filled, widened, without_first, roomy_queue}
+use Rattle.xe_scene.specs.Script.{taped, queue_at}
+use Rattle.xe_scene.specs.Replies.{reply_to}
+use Rattle.xe_scene.specs.Rooms.{items_for, fed_by}
+use Rattle.xe_scene.proofs.KeyLaws.{equal_keys}
+
+-- what waits on the tape
+abbrev pub waiting : BTreeMap QueueName Queued → Key → List tapes.Item
+waiting m k = map taped (queue_at m k).waiting
+
+-- a change of one queue is that change of the tape
+changed : (m n : BTreeMap QueueName Queued) (j : Key) (f : Queued → Queued) (new : List tapes.Item) → map taped (f (queue_at m j)).waiting ≡ new
+    → ((k : Key) → queue_at n k ≡ (if same_key k j then f (queue_at m k) else queue_at m k)) → waiting n ≡ with_queue (waiting m) j new
+changed m n j f new e h = fun_ext (λ k.
+    let at : (b : Bool) → same_key k j ≡ b → waiting n k ≡ (if b then new else waiting m k) = λ b.
+    elim b as (λ b. same_key k j ≡ b → waiting n k ≡ (if b then new else waiting m k)) [
+      | true ↦ λ t.
+          let now : queue_at n k ≡ f (queue_at m k) = h k ∙ ap (λ b. if b then f (queue_at m k) else queue_at m k) t in
+          ap (λ (q : Queued). map taped q.waiting) now ∙ ap (λ (i : Key). map taped (f (queue_at m i)).waiting) (equal_keys k j t) ∙ e
+      | false ↦ λ t.
+          let now : queue_at n k ≡ queue_at m k = h k ∙ ap (λ b. if b then f (queue_at m k) else queue_at m k) t in
+          ap (λ (q : Queued). map taped q.waiting) now
+    ] in
+    at (same_key k j) refl)
+
+pub fed_queues : (m n : BTreeMap QueueName Queued) (j : Key) (items : List Item)
+    → ((k : Key) → queue_at n k ≡ (if same_key k j then filled (queue_at m k) items else queue_at m k)) → waiting n ≡ with_queue (waiting m) j (waiting m j ++ map taped items)
+fed_queues m n j items h = changed m n j (λ (q : Queued). filled q items) _ (map-append taped (queue_at m j).waiting items) h
+
+pub popped_queues : (m n : BTreeMap QueueName Queued) (j : Key)
+    → ((k : Key) → queue_at n k ≡ (if same_key k j then without_first (queue_at m k) else queue_at m k)) → waiting n ≡ with_queue (waiting m) j (drop 1 (waiting m j))
+popped_queues m n j h = changed m n j without_first _ (sym (drop-map taped 1 (queue_at m j).waiting)) h
+
+pub first_replied : (a : Access) (items : List Item) → reply_to a (slice_get items 0) ≡ first_reply a (map taped items)
+first_replied a [] = refl
+first_replied a ((Value v) ∷ items) = refl
+
+-- queues of which none has an item
+pub empty_queues : (m : BTreeMap QueueName Queued) (room : Key → ℕ) → ((k : Key) → queue_at m k ≡ roomy_queue (room k)) → waiting m ≡ (λ k. [])
+empty_queues m room h = fun_ext (λ k. ap (λ (q : Queued). map taped q.waiting) (h k))
+
+pub more_room : (cs : List Command) (i : ℕ) (c : Command) (k : Key) (q : Queued) → i < length cs → slice_get cs i ≡ Some c → q ≡ roomy_queue (items_for (take i cs) k)
+    → widened q (fed_by k c) ≡ roomy_queue (items_for (take (i + 1) cs) k)
+more_room cs i c k q lt h e =
+    ap (λ (q : Queued). widened q (fed_by k c)) e
+    ∙ ap roomy_queue (ap (λ (x : Command). items_for (take i cs) k + fed_by k x) (sym (get_or_from_slice_get cs i c c h)) ∙ sym (sum_by_more (fed_by k) cs i c lt))

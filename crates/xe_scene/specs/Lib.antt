@@ -1,0 +1,17 @@
+pub mod Steps
+pub mod Numbers
+pub mod Reasons
+pub mod Queues
+pub mod Queued
+pub mod QueueInside
+pub mod Script
+pub mod Replies
+pub mod Rooms
+pub mod Words
+pub mod Draft
+pub mod Scene
+pub mod First
+pub mod Gives
+pub mod Puts
+pub mod Faults
+pub mod Counts

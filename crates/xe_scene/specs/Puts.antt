@@ -1,0 +1,24 @@
+-- What the reader of a line answers.
+use Rattle.std.specs.Prelude.{◌≡◌, List, [], ◌∷◌, ◌++◌, Option, Some, None, Result, Ok, Err}
+use Rattle.xe_scene.specs.declared.reason.Reason.{Reason}
+use Rattle.xe_scene.specs.declared.reason.Reason.TheVariants.{NotBuilt}
+use Rattle.xe_scene.specs.declared.queue.QueueName.{QueueName}
+use Rattle.xe_scene.specs.declared.reader.LineFault.{LineFault}
+use Rattle.xe_scene.specs.declared.reader.LineFault.TheVariants.{NoMemory, Bad}
+use Rattle.xe_scene.specs.Draft.{Draft}
+
+-- the draft, or the reason of the line, or memory ran out
+abbrev pub Puts : Result (Unit {0}) LineFault → Result Draft Reason → Draft → Type 0
+Puts (Ok done) said new = said ≡ Ok new
+Puts (Err NoMemory) said new = Unit {0}
+Puts (Err (Bad r)) said new = said ≡ Err r
+
+-- a list with one more, if there is one
+abbrev pub with_new : List QueueName → Option QueueName → List QueueName
+with_new qs None = qs
+with_new qs (Some q) = qs ++ q ∷ []
+
+-- until the whole grammar is built, each reason is told as not built
+abbrev pub as_built_fault : LineFault → LineFault
+as_built_fault NoMemory = NoMemory
+as_built_fault (Bad r) = Bad NotBuilt

@@ -1,0 +1,65 @@
+-- What a text says, or its first bad line.
+use Rattle.std.specs.Prelude.{ℕ, ◌+◌, ◌-◌, ◌==◌, nat_lt, if◌then◌else◌, List, [], ◌∷◌, length, take, slice_index, Result, Ok, Err, codes, Bool}
+use Rattle.std.specs.List.{slice_split, count_by}
+use Rattle.std.specs.Str.{bytes_eq}
+use Rattle.xe_scene.specs.declared.reason.Reason.{Reason}
+use Rattle.xe_scene.specs.declared.reason.Reason.TheVariants.{Header, TooLong, NotBuilt}
+use Rattle.xe_scene.specs.Reasons.{number_of}
+use Rattle.xe_scene.specs.Steps.{◌>>=◌}
+use Rattle.xe_scene.specs.Draft.{Draft, line_says}
+
+-- which line is bad, and why
+pub record Bad : Type 0 where
+  pub number : ℕ
+  pub reason : ℕ
+
+abbrev pub bad_line : ℕ → Reason → Bad
+bad_line n reason = record { number = n; reason = number_of reason }
+
+abbrev pub is_newline : ℕ → Bool
+is_newline b = b == 10
+
+-- the bytes that a text has at most
+abbrev pub text_most : ℕ
+text_most = 1048576
+
+-- until the whole grammar is built, a line outside of what is built is refused as not built, whatever is wrong with it
+abbrev pub as_built : Result Draft Reason → Result Draft Reason
+as_built (Ok d) = Ok d
+as_built (Err reason) = Err NotBuilt
+
+abbrev pub header : Draft → List ℕ → Result Draft Reason
+header d line = if bytes_eq line (codes "x86emu 1") then Ok d else Err Header
+
+-- the draft after line n + 1, before which there are n lines
+unfoldable pub line_after : ℕ → Draft → List ℕ → Result Draft Reason
+line_after n d line = as_built (if n == 0 then header d line else line_says d line)
+
+abbrev pub at_line : ℕ → Result Draft Reason → Result Draft Bad
+at_line n (Ok d) = Ok d
+at_line n (Err reason) = Err (bad_line n reason)
+
+-- the draft after the lines that follow n lines, or the first bad line
+unfoldable pub lines_say : ℕ → Draft → List (List ℕ) → Result Draft Bad
+lines_say n d [] = Ok d
+lines_say n d (line ∷ lines) = at_line (n + 1) (line_after n d line) >>= λ e. lines_say (n + 1) e lines
+
+abbrev pub nothing : Draft
+nothing = record { regions = []; commands = [] }
+
+-- each line ends with a newline, which the last one may lack
+abbrev pub without_last_newline : List ℕ → List ℕ
+without_last_newline bytes = if slice_index bytes (length bytes - 1) == 10 then take (length bytes - 1) bytes else bytes
+
+abbrev pub lines_of : List ℕ → List (List ℕ)
+lines_of bytes = slice_split is_newline (without_last_newline bytes)
+
+-- what a text of at most so many bytes says, or its first bad line
+unfoldable pub scene_within : ℕ → List ℕ → Result Draft Bad
+scene_within most bytes =
+    if nat_lt most (length bytes) then Err (bad_line (1 + count_by is_newline (take most bytes)) TooLong)
+    else lines_say 0 nothing (lines_of bytes)
+
+-- what a text says, or its first bad line
+abbrev pub scene : List ℕ → Result Draft Bad
+scene bytes = scene_within text_most bytes

@@ -1,0 +1,20 @@
+//! Scenario texts, and the devices that a scenario scripts.
+#![tactic(auto)]
+
+mod command;
+mod laws;
+mod number;
+mod queue;
+mod reader;
+mod reading;
+mod reason;
+mod script_bus;
+mod words;
+
+pub use command::{Command, Commands, Dir, Item, RegName, Scene};
+pub use laws::first_bad;
+pub use reading::{SceneFault, read_scene};
+pub use script_bus::ScriptBus;
+
+#[cfg(test)]
+mod tests;

@@ -1,0 +1,270 @@
+//! What the lines so far said, with the counts that their bounds need.
+ghost use Rattle.std.specs.Prelude.{◌≡◌, ◌≤◌, ◌||◌, [], length, map, nat_lt, IfOk, if◌then◌else◌};
+ghost use Rattle.std.specs.List.{list_any, slice_split};
+ghost use Rattle.xe_core.specs.Regions as regions;
+ghost use Rattle.xe_core.specs.Regions.{AreRegions};
+ghost use Rattle.xe_scene.specs.Draft as spec;
+ghost use Rattle.xe_scene.specs.Queues.{same_queue};
+ghost use Rattle.xe_scene.specs.Puts.{Puts, with_new};
+ghost use Rattle.xe_scene.specs.Faults.{draft_of};
+ghost use Rattle.xe_scene.specs.declared.reader.LineFault.TheVariants.{NoMemory};
+
+use crate::command::{Command, Commands, Scene};
+use crate::queue::QueueName;
+use crate::reason::Reason;
+use crate::words::{Entry, entry_of};
+use arrayvec::ArrayVec;
+use std::alloc::{AllocError, AllocFailed, Global};
+use std::marker::Model;
+use xe_core::Region;
+
+/// Why a line was not read.
+#[derive(Clone, Copy, Debug, Drop, PartialEq, Eq)]
+pub enum LineFault {
+    NoMemory,
+    Bad(Reason),
+}
+
+impl From<AllocError> for LineFault {
+    ghost from_gives = { λ _ e. e ≡ NoMemory };
+
+    fn from(_e: AllocError) -> LineFault {
+        LineFault::NoMemory
+    }
+}
+
+impl<T: Drop> From<AllocFailed<T>> for LineFault {
+    ghost from_gives = { λ _ e. e ≡ NoMemory };
+
+    fn from(_e: AllocFailed<T>) -> LineFault {
+        LineFault::NoMemory
+    }
+}
+
+/// The scene so far.
+#[derive(Drop)]
+pub struct Reader {
+    regions: ArrayVec<Region, 16>,
+    commands: Vec<Command>,
+    /// The bytes of all regions.
+    ram: u64,
+    /// Where the last region ends.
+    ram_end: u64,
+    /// The items of all queues.
+    items: usize,
+    /// The steps of all runs.
+    steps: u64,
+    /// The different queues.
+    queues: ArrayVec<QueueName, 256>,
+}
+
+impl Model for Reader {
+    ghost use Rattle.xe_scene.specs.Draft.{Draft};
+
+    ghost Value = { Draft };
+
+    ghost use Rattle.xe_scene.specs.Counts.{draft, IsCounted};
+
+    ghost view = { draft };
+
+    ghost invariant = { IsCounted };
+}
+
+/// Whether a region is of whole pages below 2^40, from this address on.
+fn is_region_from(low: u64, r: &Region) -> bool
+    ensures { result ≡ regions.is_region_from low r.now }
+{
+    r.start % 4096 == 0
+        && r.len % 4096 == 0
+        && r.len > 0
+        && r.start.saturating_add(r.len) <= 1 << 40
+        && r.start >= low
+}
+
+fn item_count(command: &Command) -> usize
+    ensures count { result ≡ spec.item_count command.now }
+    ensures most { result ≤ 16 }
+{
+    match command {
+        Command::Dev(_, _, _, items) => items.len(),
+        _ => 0,
+    }
+}
+
+fn step_count(command: &Command) -> u64
+    ensures { result ≡ spec.step_count command.now }
+{
+    match command {
+        Command::Run(steps) => *steps,
+        _ => 0,
+    }
+}
+
+/// The queue that a command names and that isn't one of these.
+fn new_queue(queues: &[QueueName], command: &Command) -> Option<QueueName>
+    ensures { spec.with_queue queues.now command.now ≡ with_new queues.now result }
+{
+    match command {
+        Command::Dev(space, dir, address, _) => another_queue(
+            queues,
+            QueueName {
+                space: *space,
+                write: dir.is_write(),
+                address: *address,
+            },
+        ),
+        _ => None,
+    }
+}
+
+/// The queue, where it isn't one of these.
+fn another_queue(queues: &[QueueName], queue: QueueName) -> Option<QueueName>
+    ensures { result ≡ (if list_any (same_queue queue) queues.now then None else Some queue) }
+{
+    if has_queue(queues, &queue) {
+        None
+    } else {
+        Some(queue)
+    }
+}
+
+fn has_queue(queues: &[QueueName], queue: &QueueName) -> bool
+    ensures { result ≡ list_any (same_queue queue.now) queues.now }
+{
+    queues.iter().any(|q| *queue == *q)
+}
+
+impl Reader {
+    pub fn new(alloc: Global) -> Reader
+        ensures { result ≡ record { regions = []; commands = [] } }
+    {
+        Reader {
+            regions: ArrayVec::new(),
+            commands: Vec::new(alloc),
+            ram: 0,
+            ram_end: 0,
+            items: 0,
+            steps: 0,
+            queues: ArrayVec::new(),
+        }
+    }
+
+    #[tactic(auto, using(crate::proofs::RegionLaws::are_regions_push), unfolding(crate::specs::Draft::put, crate::specs::Draft::is_too_much, crate::specs::Draft::is_bad_region))]
+    fn put_region(&mut self, region: Region) -> Result<(), LineFault>
+        ensures { Puts result (spec.put self.old (Entry.Ram region)) self.new }
+    {
+        if !is_region_from(self.ram_end, &region) {
+            return Err(LineFault::Bad(Reason::BadRegion));
+        }
+        if self.regions.len() >= 16 || self.ram.saturating_add(region.len) > 0x100_0000 {
+            return Err(LineFault::Bad(Reason::TooMuchRam));
+        }
+        self.ram += region.len;
+        self.ram_end = region.start + region.len;
+        self.regions.push(region);
+        Ok(())
+    }
+
+    #[tactic(auto, unfolding(crate::specs::Draft::put, crate::specs::Draft::is_too_many))]
+    fn put_command(&mut self, command: Command) -> Result<(), LineFault>
+        ensures { Puts result (spec.put self.old (Entry.Obey command)) self.new }
+    {
+        let items = self.items + item_count(&command);
+        let steps = self.steps.saturating_add(step_count(&command));
+        if self.commands.len() >= 4096 || items > 4096 || steps > 1_000_000 {
+            return Err(LineFault::Bad(Reason::TooMany));
+        }
+        let queue = new_queue(&self.queues, &command);
+        if queue.is_some() && self.queues.len() >= 256 {
+            return Err(LineFault::Bad(Reason::TooMany));
+        }
+        self.commands.push(command)?;
+        if let Some(queue) = queue {
+            self.queues.push(queue);
+        }
+        self.items = items;
+        self.steps = steps;
+        Ok(())
+    }
+
+    fn put(&mut self, entry: Entry) -> Result<(), LineFault>
+        ensures { Puts result (spec.put self.old entry) self.new }
+    {
+        match entry {
+            Entry::Ram(region) => self.put_region(region),
+            Entry::Obey(command) => self.put_command(command),
+        }
+    }
+
+    /// Whether RAM comes too late.
+    fn is_late(&self) -> bool
+        ensures { result ≡ spec.is_late self.now }
+    {
+        !self.commands.is_empty() || !self.regions.is_empty()
+    }
+
+    #[tactic(auto, using(crate::proofs::WordLaws::any_mapped), unfolding(crate::specs::Draft::words_say))]
+    fn words(&mut self, words: &[&[u8]]) -> Result<(), LineFault>
+        ensures { Puts result (spec.words_say self.old (map (λ w. w.now) words.now)) self.new }
+    {
+        if has_empty(words) {
+            return Err(LineFault::Bad(Reason::Spacing));
+        }
+        match entry_of(self.is_late(), words) {
+            Ok(entry) => self.put(entry),
+            Err(reason) => Err(LineFault::Bad(reason)),
+        }
+    }
+
+    /// Reads a line.
+    #[tactic(auto, unfolding(crate::specs::Draft::line_says))]
+    pub fn line(&mut self, alloc: Global, line: &[u8]) -> Result<(), LineFault>
+        ensures { Puts result (spec.line_says self.old line.now) self.new }
+    {
+        if has_bad_byte(line) {
+            return Err(LineFault::Bad(Reason::BadByte));
+        }
+        if line.len() > 200 {
+            return Err(LineFault::Bad(Reason::LongLine));
+        }
+        let words = words_of(alloc, line)?;
+        self.words(&words)
+    }
+
+    pub fn into_scene(self) -> Scene
+        ensures draft { draft_of result ≡ self }
+        ensures regions { AreRegions result.regions.items }
+    {
+        let Reader {
+            regions,
+            commands,
+            ram: _,
+            ram_end: _,
+            items: _,
+            steps: _,
+            queues: _,
+        } = self;
+        Scene {
+            regions,
+            commands: Commands::new(commands),
+        }
+    }
+}
+
+fn has_empty(words: &[&[u8]]) -> bool
+    ensures { result ≡ list_any (λ w. spec.is_empty_word w.now) words.now }
+{
+    words.iter().any(|w| w.is_empty())
+}
+
+fn has_bad_byte(line: &[u8]) -> bool
+    ensures { result ≡ list_any spec.is_bad_byte line.now }
+{
+    line.iter().any(|b| *b < 32 || *b > 126)
+}
+
+fn words_of(alloc: Global, line: &[u8]) -> Result<Vec<&[u8]>, AllocError>
+    ensures { IfOk result (λ v. map (λ w. w.now) v.items ≡ slice_split spec.is_space line.now) }
+{
+    line.split(|b| *b == b' ').collect(alloc)
+}

@@ -1,0 +1,210 @@
+//! The bus of a scenario: devices that follow its script.
+ghost use Rattle.std.specs.Prelude.{◌≡◌, ◌-◌, ◌*◌, ◌%◌, ◌^◌, ◌≤◌, if◌then◌else◌, map, length, slice_get, IfOk, OnOk, IsTrue, IsSome, Some};
+ghost use Rattle.xe_base.specs.Access.{IsWellFormed, answers_to};
+ghost use Rattle.xe_core.specs.Tape.{Key, same_key, fed, begun, empty_tape};
+ghost use Rattle.xe_scene.specs.Queued.{widened, filled, without_first, roomy_queue};
+ghost use Rattle.xe_scene.specs.Queues.{script_key, key_of_name};
+ghost use Rattle.xe_scene.specs.Script.{taped, found_at, queue_at, tape_of, spare_of, log_room};
+ghost use Rattle.xe_scene.specs.Replies.{reply_to};
+ghost use Rattle.xe_scene.specs.Rooms.{items_for, fed_by};
+
+use crate::command::{Command, Commands, Item, Scene};
+use crate::queue::{Queue, QueueName};
+use arrayvec::ArrayVec;
+use std::alloc::{AllocError, Global};
+use std::collections::BTreeMap;
+use xe_base::{Access, Answer, Made, NoMemory, Space};
+use xe_core::Bus;
+
+type Queues = BTreeMap<QueueName, Queue>;
+
+/// Devices that answer by the items of a scene, queue by queue, and a log of what was answered.
+#[derive(Drop)]
+pub struct ScriptBus {
+    queues: Queues,
+    log: ArrayVec<Made, 256>,
+}
+
+/// A value in the width of an access.
+fn truncated(a: &Access, value: u64) -> u64
+    requires { IsWellFormed a.now }
+    ensures { result ≡ value % 2 ^ (8 * a.now.size) }
+{
+    match a.size {
+        1 => value % 0x100,
+        2 => value % 0x1_0000,
+        4 => value % 0x1_0000_0000,
+        _ => value,
+    }
+}
+
+/// The greatest value of an access.
+fn all_ones(a: &Access) -> u64
+    requires { IsWellFormed a.now }
+    ensures { result ≡ 2 ^ (8 * a.now.size) - 1 }
+{
+    match a.size {
+        1 => 0xff,
+        2 => 0xffff,
+        4 => 0xffff_ffff,
+        _ => u64::MAX,
+    }
+}
+
+/// What the first item of a queue answers; an empty queue reads as all ones, and takes what is
+/// written.
+fn reply(a: &Access, item: Option<Item>) -> Answer
+    requires { IsWellFormed a.now }
+    ensures value { result ≡ reply_to a.now item }
+    ensures fits { IsTrue (answers_to a.now result) }
+{
+    match item {
+        Some(Item::Value(value)) => Answer::Val(truncated(a, value)),
+        None if a.write => Answer::Val(0),
+        None => Answer::Val(all_ones(a)),
+    }
+}
+
+/// Adds an empty queue, where there is none of this name.
+fn add_queue(queues: &mut Queues, alloc: Global, name: QueueName) -> Result<(), AllocError>
+    ensures same { OnOk result ((k : Key) → queue_at queues.new k ≡ queue_at queues.old k) }
+    ensures found { OnOk result (IsSome (found_at queues.new (key_of_name name))) }
+{
+    if !queues.contains_key(&name) {
+        queues.insert(name, Queue::new(alloc))?;
+    }
+    Ok(())
+}
+
+/// Makes room for so many more items of a queue.
+fn widen_queue(queues: &mut Queues, name: QueueName, more: usize) -> Result<(), AllocError>
+    requires { IsSome (found_at queues.old (key_of_name name)) }
+    ensures { OnOk result ((k : Key) → queue_at queues.new k ≡ (if same_key k (key_of_name name) then widened (queue_at queues.old k) more else queue_at queues.old k)) }
+{
+    match queues.get_mut(&name) {
+        Some(queue) => {
+            queue.widen(more)?;
+            Ok(())
+        }
+        None => Ok(()),
+    }
+}
+
+/// Appends items to a queue that has room for them.
+fn feed_queue(queues: &mut Queues, name: QueueName, items: &[Item])
+    requires { length items.now ≤ (queue_at queues.old (key_of_name name)).left }
+    ensures { (k : Key) → queue_at queues.new k ≡ (if same_key k (key_of_name name) then filled (queue_at queues.old k) items.now else queue_at queues.old k) }
+{
+    if let Some(queue) = queues.get_mut(&name) {
+        queue.feed(items);
+    }
+}
+
+/// Takes the first item of a queue, if it has one.
+fn take_item(queues: &mut Queues, name: QueueName) -> Option<Item>
+    ensures first { result ≡ slice_get (queue_at queues.old (key_of_name name)).waiting 0 }
+    ensures rest { (k : Key) → queue_at queues.new k ≡ (if same_key k (key_of_name name) then without_first (queue_at queues.old k) else queue_at queues.old k) }
+{
+    match queues.get_mut(&name) {
+        Some(queue) => queue.take(),
+        None => None,
+    }
+}
+
+/// Makes room for what a command feeds.
+fn make_room(queues: &mut Queues, alloc: Global, command: &Command) -> Result<(), AllocError>
+    ensures { OnOk result ((k : Key) → queue_at queues.new k ≡ widened (queue_at queues.old k) (fed_by k command.now)) }
+{
+    match command {
+        Command::Dev(space, dir, address, items) => {
+            let name = QueueName {
+                space: *space,
+                write: dir.is_write(),
+                address: *address,
+            };
+            add_queue(queues, alloc, name)?;
+            widen_queue(queues, name, items.len())
+        }
+        _ => Ok(()),
+    }
+}
+
+/// Empty queues with room for all that commands feed.
+fn queues_for(alloc: Global, commands: &Commands) -> Result<Queues, AllocError>
+    ensures { IfOk result (λ m. (k : Key) → queue_at m k ≡ roomy_queue (items_for commands.now k)) }
+{
+    let mut queues = BTreeMap::new(alloc);
+    for i in 0..commands.len() {
+        make_room(&mut queues, alloc, commands.get(i))?;
+    }
+    Ok(queues)
+}
+
+impl ScriptBus {
+    /// Empty queues with room for all items of a scene, and an empty log; or NoMemory where memory
+    /// was refused.
+    pub fn for_scene(alloc: Global, scene: &Scene) -> Result<ScriptBus, NoMemory>
+        ensures tape { IfOk result (λ b. tape_of b ≡ empty_tape) }
+        ensures room { IfOk result (λ b. log_room b ≡ 256) }
+        ensures spare { IfOk result (λ b. (k : Key) → spare_of b k ≡ items_for scene.now.commands k) }
+    {
+        match queues_for(alloc, &scene.commands) {
+            Ok(queues) => Ok(ScriptBus {
+                queues,
+                log: ArrayVec::new(),
+            }),
+            Err(AllocError) => Err(NoMemory),
+        }
+    }
+
+    /// Appends items to the queue of a space, a direction and an address, into the room that the
+    /// scene gave it. That room is for all items of the scene: it isn't given back as they are taken.
+    pub fn feed(&mut self, space: Space, write: bool, address: u64, items: &[Item])
+        requires { length items.now ≤ spare_of self.old (script_key space write address) }
+        ensures tape { tape_of self.new ≡ fed (tape_of self.old) (script_key space write address) (map taped items.now) }
+        ensures room { log_room self.new ≡ log_room self.old }
+        ensures spare { (k : Key) → spare_of self.new k ≡ (if same_key k (script_key space write address) then spare_of self.old k - length items.now else spare_of self.old k) }
+    {
+        let name = QueueName {
+            space,
+            write,
+            address,
+        };
+        feed_queue(&mut self.queues, name, items);
+    }
+
+    /// Empties the log.
+    pub fn begin(&mut self)
+        ensures tape { tape_of self.new ≡ begun (tape_of self.old) }
+        ensures room { log_room self.new ≡ 256 }
+        ensures spare { (k : Key) → spare_of self.new k ≡ spare_of self.old k }
+    {
+        self.log.clear();
+    }
+
+    /// The accesses that were answered since the log was emptied, with their answers.
+    pub fn log(&self) -> &[Made]
+        ensures { result.now ≡ (tape_of self.now).log }
+    {
+        &self.log
+    }
+}
+
+impl Bus for ScriptBus {
+    ghost tape = { λ b. Some (tape_of b) };
+
+    ghost room = { log_room };
+
+    ghost spare = { spare_of };
+
+    fn access(&mut self, a: Access) -> Answer {
+        let name = QueueName {
+            space: a.space,
+            write: a.write,
+            address: a.address,
+        };
+        let answer = reply(&a, take_item(&mut self.queues, name));
+        self.log.push(Made { access: a, answer });
+        answer
+    }
+}
