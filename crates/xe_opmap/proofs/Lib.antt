@@ -4,3 +4,4 @@ pub mod GroupLaws
 pub mod DecodeLaws
 pub mod PartsLaws
 pub mod RelationLaws
+pub mod NeedLaws

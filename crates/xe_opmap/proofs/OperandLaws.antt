@@ -1,5 +1,5 @@
 use Rattle.std.proofs.Common.{◌≡◌, ℕ, Bool, true, false, List, [], ◌∷◌, drop, length, ◌+◌, ◌/◌, ◌%◌, refl, arith, sym, ◌∙◌, ap}
-use Rattle.std.specs.Prelude.{pos}
+use Rattle.std.specs.Prelude.{pos, ◌==◌}
 use Rattle.std.proofs.lemmas.Bool.{le-ltb}
 use Rattle.xe_base.specs.declared.cpu.CodeSize.{CodeSize}
 use Rattle.xe_modrm.specs.declared.part.ModRm.{ModRm}
@@ -42,6 +42,15 @@ module _ (size : CodeSize) (pre : Prefixes) (bytes : List ℕ) (m used : ℕ) (f
       let sum : used ≡ used + 0 = omega arith in
       ap (λ (v : ModRm). Got v used) value ∙ ap (Got (operand_of size pre (192 + m % 64) 0 (pos 0))) sum
       ∙ sym (ap (λ p. continued p bytes (operand_rest size pre Control)) first)
+
+  pub control_md : (modrm : ModRm) (k : ℕ) → Got modrm k ≡ operand_part size pre ((192 + m % 64) ∷ []) → (modrm.md == 3) ≡ true
+  unfolding operand_of
+  control_md modrm k e =
+      let same : Got modrm k ≡ Got (operand_of size pre (192 + m % 64) 0 (pos 0)) 1 = e ∙ register_alone size pre m in
+      let value : modrm ≡ operand_of size pre (192 + m % 64) 0 (pos 0) = cc in
+      let md : modrm.md ≡ (192 + m % 64) / 64 = ap (λ (v : ModRm). v.md) value in
+      let three : (192 + m % 64) / 64 ≡ 3 = omega arith in
+      ap (λ (n : ℕ). n == 3) (md ∙ three)
 
   pub control_more : More ≡ operand_part size pre ((192 + m % 64) ∷ []) → More ≡ modrm_part size pre Control bytes
   control_more e =

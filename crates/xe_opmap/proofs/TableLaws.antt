@@ -11,7 +11,7 @@ use Rattle.xe_opmap.specs.declared.shape.Cell.TheVariants.{Outside, Invalid, Pla
 use Rattle.xe_opmap.specs.declared.shape.Entry.{Entry}
 use Rattle.xe_opmap.specs.declared.shape.Entry.TheVariants.{Alone, Group, ByCode, ByRep, ByRex}
 use Rattle.xe_opmap.specs.Table.{Line, one_byte_lines, two_byte_lines, lines_of, cell_in, has_group, needs_reg, cell_at, cell_of, has_digit, holds, IsOpcode}
-use Rattle.xe_opmap.specs.Valid.{is_address, is_offset, IsCellOf}
+use Rattle.xe_opmap.specs.Valid.{is_address, is_offset, need_of, serves, IsCellOf}
 use Rattle.xe_opmap.specs.Lookup.{entry_of}
 
 -- a table's rule, from the rule's values one after another
@@ -174,7 +174,7 @@ not_group (ByCode a b) never = refl
 not_group (ByRep a b) never = refl
 not_group (ByRex a b c) never = refl
 
--- ---- the opcodes with an address
+-- ---- what shapes have to do with their opcodes
 
 abbrev same : Bool → Bool → Bool
 same true b = b
@@ -189,12 +189,14 @@ same_is false false e = refl
 abbrev cell_fits : ℕ → Cell → Bool
 cell_fits op Outside = true
 cell_fits op Invalid = true
-cell_fits op (Plain s) = same (is_address s.imm) (is_offset op)
+cell_fits op (Plain s) = same (is_address s.imm) (is_offset op) && serves (need_of s.row op) s.operand
 
 fits_is : (op : ℕ) (c : Cell) → cell_fits op c ≡ true → IsCellOf op c
 fits_is op Outside e = tt
 fits_is op Invalid e = tt
-fits_is op (Plain s) e = same_is (is_address s.imm) (is_offset op) e
+fits_is op (Plain s) e =
+    let parts = and_parts (same (is_address s.imm) (is_offset op)) (serves (need_of s.row op) s.operand) e in
+    record { address = same_is (is_address s.imm) (is_offset op) parts.0; serves_row = parts.1 }
 
 abbrev all_fit : ℕ → List Line → Bool
 all_fit op lines = list_all (λ l. cell_fits op l.cell) lines
@@ -222,6 +224,6 @@ found_fits op p (l ∷ lines) e =
       | false ↦ found_fits op p lines parts.1
     ]
 
-pub address_is : (s : Setting) (op reg : ℕ) (c : Cell) → IsOpcode op → c ≡ cell_at s op reg → IsCellOf op c
+pub shape_is : (s : Setting) (op reg : ℕ) (c : Cell) → IsOpcode op → c ≡ cell_at s op reg → IsCellOf op c
 unfolding cell_at
-address_is s op reg c is e = subst (IsCellOf op) (sym e) (found_fits op (λ l. has_digit reg l.digits && holds s l.when) (lines_of op) (lines_fit op is))
+shape_is s op reg c is e = subst (IsCellOf op) (sym e) (found_fits op (λ l. has_digit reg l.digits && holds s l.when) (lines_of op) (lines_fit op is))

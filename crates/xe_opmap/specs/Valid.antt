@@ -1,4 +1,4 @@
-use Rattle.std.specs.Prelude.{ℕ, ◌≡◌, ◌≤◌, ◌<◌, ◌*◌, ◌^◌, Bool, true, false, ◌&&◌, nat_le}
+use Rattle.std.specs.Prelude.{ℕ, ◌≡◌, ◌≤◌, ◌<◌, ◌*◌, ◌%◌, ◌^◌, Bool, true, false, ◌==◌, ◌&&◌, not, nat_le, nat_lt, IsTrue, if◌then◌else◌, Option, Some, None}
 use Rattle.std.specs.Option.{ForSome}
 use Rattle.xe_base.specs.declared.cpu.CodeSize.{CodeSize}
 use Rattle.xe_modrm.specs.Prefix.{is_64_bit}
@@ -6,7 +6,13 @@ use Rattle.xe_modrm.specs.Valid.{IsPrefixes, IsModRm}
 use Rattle.xe_modrm.specs.declared.part.Part.{Part}
 use Rattle.xe_modrm.specs.declared.part.Part.TheVariants.{Got, More}
 use Rattle.xe_opmap.specs.Table.{IsOpcode}
-use Rattle.xe_opmap.specs.Encoding.{IsSize}
+use Rattle.xe_modrm.specs.declared.part.ModRm.{ModRm}
+use Rattle.xe_opmap.specs.Encoding.{IsSize, is_control}
+use Rattle.xe_opmap.specs.declared.row.Row.{Row}
+use Rattle.xe_opmap.specs.declared.row.Row.TheVariants as row
+use Rattle.xe_opmap.specs.declared.shape.Shape.{Shape}
+use Rattle.xe_opmap.specs.declared.shape.Operand.{Operand}
+use Rattle.xe_opmap.specs.declared.shape.Operand.TheVariants.{Nothing, Any, Memory, MemoryOnly, FromSegment, ToSegment, Control}
 use Rattle.xe_opmap.specs.declared.shape.Imm.{Imm}
 use Rattle.xe_opmap.specs.declared.shape.Imm.TheVariants as imm
 use Rattle.xe_opmap.specs.declared.shape.Cell.{Cell}
@@ -46,15 +52,179 @@ imm_width opsize adsize imm.Address = adsize
 imm_width opsize adsize imm.Far = opsize
 imm_width opsize adsize imm.Frame = opsize
 
--- an opcode has an address exactly where it is one of those four
+-- what is known of the ModRM operand by the row alone
+pub data Need : Type 0 where
+  Unknown : Need
+  There : Need
+  InMemory : Need
+  FromSeg : Need
+  ToSeg : Need
+  OfControl : Need
+
+-- the operand of a row: some rows always have one, some have it in memory, and far calls and jumps
+-- have it nowhere else; MOV names a segment register that there is, which isn't CS as destination,
+-- or a control register that there is
+abbrev pub need_of : Row → ℕ → Need
+need_of row.Arpl op = There
+need_of row.Movsxd op = There
+need_of row.Imul op = There
+need_of row.Movseg op = if op == 0x8E then ToSeg else FromSeg
+need_of row.Lea op = InMemory
+need_of row.Callf op = if op == 0xFF then InMemory else Unknown
+need_of row.Jmpf op = if op == 0xFF then InMemory else Unknown
+need_of row.Rol op = There
+need_of row.Ror op = There
+need_of row.Rcl op = There
+need_of row.Rcr op = There
+need_of row.Shl op = There
+need_of row.Shr op = There
+need_of row.Sar op = There
+need_of row.Les op = InMemory
+need_of row.Lds op = InMemory
+need_of row.Lss op = InMemory
+need_of row.Lfs op = InMemory
+need_of row.Lgs op = InMemory
+need_of row.Not op = There
+need_of row.Neg op = There
+need_of row.Mul op = There
+need_of row.Div op = There
+need_of row.Idiv op = There
+need_of row.Sldt op = There
+need_of row.Str op = There
+need_of row.Lldt op = There
+need_of row.Ltr op = There
+need_of row.Verr op = There
+need_of row.Verw op = There
+need_of row.Sgdt op = InMemory
+need_of row.Sidt op = InMemory
+need_of row.Lgdt op = InMemory
+need_of row.Lidt op = InMemory
+need_of row.Smsw op = There
+need_of row.Lmsw op = There
+need_of row.Invlpg op = InMemory
+need_of row.Lar op = There
+need_of row.Lsl op = There
+need_of row.Movcr op = OfControl
+need_of row.Cmov op = There
+need_of row.Set op = There
+need_of row.Bt op = There
+need_of row.Bts op = There
+need_of row.Btr op = There
+need_of row.Btc op = There
+need_of row.Shld op = There
+need_of row.Shrd op = There
+need_of row.Cmpxchg op = There
+need_of row.Movzx op = There
+need_of row.Movsx op = There
+need_of row.Popcnt op = There
+need_of row.Bsf op = There
+need_of row.Bsr op = There
+need_of row.Xadd op = There
+need_of row.Cmpxchg8b op = InMemory
+need_of other op = Unknown
+
+abbrev pub is_met : Need → Option ModRm → Bool
+is_met Unknown o = true
+is_met There None = false
+is_met There (Some m) = true
+is_met InMemory None = false
+is_met InMemory (Some m) = not (m.md == 3)
+is_met FromSeg None = false
+is_met FromSeg (Some m) = nat_lt (m.reg % 8) 6
+is_met ToSeg None = false
+is_met ToSeg (Some m) = nat_lt (m.reg % 8) 6 && not (m.reg % 8 == 1)
+is_met OfControl None = false
+is_met OfControl (Some m) = m.md == 3 && is_control m.reg
+
+-- an operand of this kind, when it was judged, is what the row needs
+abbrev pub serves : Need → Operand → Bool
+serves Unknown Nothing = true
+serves Unknown Any = true
+serves Unknown Memory = true
+serves Unknown MemoryOnly = true
+serves Unknown FromSegment = true
+serves Unknown ToSegment = true
+serves Unknown Control = true
+serves There Nothing = false
+serves There Any = true
+serves There Memory = true
+serves There MemoryOnly = true
+serves There FromSegment = true
+serves There ToSegment = true
+serves There Control = true
+serves InMemory Nothing = false
+serves InMemory Any = false
+serves InMemory Memory = true
+serves InMemory MemoryOnly = true
+serves InMemory FromSegment = false
+serves InMemory ToSegment = false
+serves InMemory Control = false
+serves FromSeg Nothing = false
+serves FromSeg Any = false
+serves FromSeg Memory = false
+serves FromSeg MemoryOnly = false
+serves FromSeg FromSegment = true
+serves FromSeg ToSegment = true
+serves FromSeg Control = false
+serves ToSeg Nothing = false
+serves ToSeg Any = false
+serves ToSeg Memory = false
+serves ToSeg MemoryOnly = false
+serves ToSeg FromSegment = false
+serves ToSeg ToSegment = true
+serves ToSeg Control = false
+serves OfControl Nothing = false
+serves OfControl Any = false
+serves OfControl Memory = false
+serves OfControl MemoryOnly = false
+serves OfControl FromSegment = false
+serves OfControl ToSegment = false
+serves OfControl Control = true
+
+-- an operand that was read for this kind
+abbrev pub is_kind : Operand → Option ModRm → Bool
+is_kind Nothing o = true
+is_kind Any None = false
+is_kind Any (Some m) = true
+is_kind Memory None = false
+is_kind Memory (Some m) = true
+is_kind MemoryOnly None = false
+is_kind MemoryOnly (Some m) = not (m.md == 3)
+is_kind FromSegment None = false
+is_kind FromSegment (Some m) = true
+is_kind ToSegment None = false
+is_kind ToSegment (Some m) = true
+is_kind Control None = false
+is_kind Control (Some m) = m.md == 3
+
+-- mod reads as 3 in an operand of MOV CR
+abbrev pub control_fits : Operand → ModRm → Bool
+control_fits Nothing m = true
+control_fits Any m = true
+control_fits Memory m = true
+control_fits MemoryOnly m = true
+control_fits FromSegment m = true
+control_fits ToSegment m = true
+control_fits Control m = m.md == 3
+
+abbrev pub IsGotOperand : Operand → Part ModRm → Type 0
+IsGotOperand k (Got m n) = IsModRm m × (control_fits k m ≡ true)
+IsGotOperand k More = Unit {0}
+
+-- a shape that belongs to the opcode: it has an address exactly where the opcode is one of the four,
+-- and its operand serves the row
+pub record IsShapeOf (op : ℕ) (s : Shape) : Type 0 where
+  pub address : is_address s.imm ≡ is_offset op
+  pub serves_row : serves (need_of s.row op) s.operand ≡ true
+
 abbrev pub IsCellOf : ℕ → Cell → Type 0
 IsCellOf op cell.Outside = Unit {0}
 IsCellOf op cell.Invalid = Unit {0}
-IsCellOf op (cell.Plain s) = is_address s.imm ≡ is_offset op
+IsCellOf op (cell.Plain s) = IsShapeOf op s
 
 -- the parts of an instruction, but for its length: sizes are 2, 4 or 8, and 8 in 64-bit code
--- alone; register numbers are below 16; an immediate fits the operand size, and an address the
--- address size
+-- alone; register numbers are below 16, and the operand is what the row needs; an immediate fits
+-- the operand size, and an address the address size
 pub record IsParts (size : CodeSize) (insn : Insn) : Type 0 where
   pub opcode : IsOpcode insn.opcode
   pub opsize : IsSize insn.opsize
@@ -63,6 +233,7 @@ pub record IsParts (size : CodeSize) (insn : Insn) : Type 0 where
   pub adsize_below : is_64_bit size ≡ false → insn.adsize ≤ 4
   pub pre : IsPrefixes size insn.pre
   pub modrm : ForSome insn.modrm IsModRm
+  pub need : IsTrue (is_met (need_of insn.row insn.opcode) insn.modrm)
   pub imm : is_offset insn.opcode ≡ false → insn.imm < 2 ^ (8 * insn.opsize)
   pub address : is_offset insn.opcode ≡ true → insn.imm < 2 ^ (8 * insn.adsize)
 

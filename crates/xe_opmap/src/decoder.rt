@@ -1,9 +1,9 @@
-ghost use Rattle.std.specs.Prelude.{◌≡◌, ◌≤◌, ◌<◌, length};
+ghost use Rattle.std.specs.Prelude.{true, ◌≡◌, ◌≤◌, ◌<◌, length};
 ghost use Rattle.xe_modrm.specs.Reader.{Within, one_byte};
 ghost use Rattle.xe_opmap.specs.Table.{bad_in_64_bit, IsOpcode};
 ghost use Rattle.std.specs.Option.{ForSome};
-ghost use Rattle.xe_modrm.specs.Valid.{IsPrefixes, IsModRm, IsGotModRm};
-ghost use Rattle.xe_opmap.specs.Valid.{is_address, is_offset, IsCellOf, IsGotVerdict, TakesSome, IsDecoded};
+ghost use Rattle.xe_modrm.specs.Valid.{IsPrefixes, IsModRm};
+ghost use Rattle.xe_opmap.specs.Valid.{is_kind, control_fits, IsShapeOf, IsGotOperand, IsCellOf, IsGotVerdict, TakesSome, IsDecoded};
 ghost use Rattle.xe_opmap.specs.Relations.{Answers};
 ghost use Rattle.xe_opmap.specs.Encoding.{immediates_part, modrm_part, operand_row, row_part, is_swapgs, swapgs_cell, group_cell, group_part, cell_part, after_opcode, after_first_byte, decode_part, finished};
 
@@ -30,7 +30,8 @@ fn immediates_part(
     requires prefixes { IsPrefixes size pre.now }
     requires opcode { IsOpcode op }
     requires modrm { ForSome modrm IsModRm }
-    requires address { is_address shape.now.imm ≡ is_offset op }
+    requires kind { is_kind shape.now.operand modrm ≡ true }
+    requires shape { IsShapeOf op shape.now }
     ensures value { result ≡ immediates_part size pre.now op shape.now modrm bytes.now }
     ensures within { Within result bytes.now }
     ensures valid { IsGotVerdict size result }
@@ -63,7 +64,7 @@ fn byte(bytes: &[u8]) -> Part<u8>
 fn control_operand(size: CodeSize, pre: &Prefixes, bytes: &[u8]) -> Part<ModRm>
     ensures value { result ≡ modrm_part size pre.now Operand.Control bytes.now }
     ensures within { Within result bytes.now }
-    ensures valid { IsGotModRm result }
+    ensures valid { IsGotOperand Operand.Control result }
 {
     let Part::Got(m, used) = byte(bytes) else {
         return Part::More;
@@ -79,7 +80,7 @@ fn control_operand(size: CodeSize, pre: &Prefixes, bytes: &[u8]) -> Part<ModRm>
 fn modrm_part(size: CodeSize, pre: &Prefixes, kind: Operand, bytes: &[u8]) -> Part<ModRm>
     ensures value { result ≡ modrm_part size pre.now kind bytes.now }
     ensures within { Within result bytes.now }
-    ensures valid { IsGotModRm result }
+    ensures valid { IsGotOperand kind result }
 {
     match kind {
         Operand::Control => control_operand(size, pre, bytes),
@@ -93,7 +94,7 @@ fn modrm_part(size: CodeSize, pre: &Prefixes, kind: Operand, bytes: &[u8]) -> Pa
 }
 
 /// A row with a ModRM byte, after its opcode.
-#[tactic(auto, unfolding(crate::specs::Encoding::operand_row, crate::specs::Encoding::after_operand))]
+#[tactic(auto, unfolding(crate::specs::Encoding::operand_row, crate::specs::Encoding::after_operand), using(crate::proofs::NeedLaws::kind_is))]
 fn operand_row(
     size: CodeSize,
     pre: &Prefixes,
@@ -103,7 +104,7 @@ fn operand_row(
 ) -> Part<Verdict>
     requires prefixes { IsPrefixes size pre.now }
     requires opcode { IsOpcode op }
-    requires address { is_address shape.now.imm ≡ is_offset op }
+    requires shape { IsShapeOf op shape.now }
     ensures value { result ≡ operand_row size pre.now op shape.now bytes.now }
     ensures within { Within result bytes.now }
     ensures valid { IsGotVerdict size result }
@@ -121,11 +122,11 @@ fn operand_row(
 }
 
 /// A row, after its opcode.
-#[tactic(auto, unfolding(crate::specs::Encoding::row_part))]
+#[tactic(auto, unfolding(crate::specs::Encoding::row_part), using(crate::proofs::NeedLaws::kind_none))]
 fn row_part(size: CodeSize, pre: &Prefixes, op: u16, shape: &Shape, bytes: &[u8]) -> Part<Verdict>
     requires prefixes { IsPrefixes size pre.now }
     requires opcode { IsOpcode op }
-    requires address { is_address shape.now.imm ≡ is_offset op }
+    requires shape { IsShapeOf op shape.now }
     ensures value { result ≡ row_part size pre.now op shape.now bytes.now }
     ensures within { Within result bytes.now }
     ensures valid { IsGotVerdict size result }
@@ -167,7 +168,7 @@ fn is_bad_in_64_bit(op: u16) -> bool
 /// SWAPGS, which is there in 64-bit code alone.
 fn swapgs_cell(long: bool) -> Cell
     ensures value { result ≡ swapgs_cell long }
-    ensures address { IsCellOf 0x0F01 result }
+    ensures cell { IsCellOf 0x0F01 result }
 {
     if !long {
         return Cell::Invalid;
@@ -186,7 +187,7 @@ fn swapgs_cell(long: bool) -> Cell
 fn group_cell(setting: Setting, op: u16, m: u8) -> Cell
     requires { IsOpcode op }
     ensures value { result ≡ group_cell setting op m }
-    ensures address { IsCellOf op result }
+    ensures cell { IsCellOf op result }
 {
     if op == 0x0F01 && m == 0xF8 {
         return swapgs_cell(setting.long);
@@ -218,7 +219,7 @@ fn group_part(size: CodeSize, pre: &Prefixes, op: u16, bytes: &[u8]) -> Part<Ver
 fn cell_part(size: CodeSize, pre: &Prefixes, op: u16, cell: Cell, bytes: &[u8]) -> Part<Verdict>
     requires prefixes { IsPrefixes size pre.now }
     requires opcode { IsOpcode op }
-    requires address { IsCellOf op cell }
+    requires cell { IsCellOf op cell }
     ensures value { result ≡ cell_part size pre.now op cell bytes.now }
     ensures within { Within result bytes.now }
     ensures valid { IsGotVerdict size result }

@@ -1,8 +1,8 @@
-ghost use Rattle.std.specs.Prelude.{◌≡◌, ◌<◌, ◌*◌, ◌^◌};
+ghost use Rattle.std.specs.Prelude.{true, ◌≡◌, ◌<◌, ◌*◌, ◌^◌};
 ghost use Rattle.std.specs.Option.{ForSome};
 ghost use Rattle.xe_modrm.specs.Valid.{IsPrefixes, IsModRm};
 ghost use Rattle.xe_opmap.specs.Table.{IsOpcode};
-ghost use Rattle.xe_opmap.specs.Valid.{imm_width, is_address, is_offset, IsVerdict};
+ghost use Rattle.xe_opmap.specs.Valid.{imm_width, is_kind, IsShapeOf, IsVerdict};
 ghost use Rattle.xe_opmap.specs.Encoding.{opsize_of, adsize_of, is_memory, is_control, wrong_operand, is_wrong, judged, ends_outside, has_modrm};
 
 use crate::insn::{Insn, Verdict};
@@ -53,7 +53,7 @@ fn is_wrong(pre: &Prefixes, shape: &Shape, modrm: &Option<ModRm>) -> bool
 }
 
 /// Judges a whole instruction.
-#[tactic(auto, unfolding(crate::specs::Encoding::judged))]
+#[tactic(auto, using(crate::proofs::NeedLaws::need_is), unfolding(crate::specs::Encoding::judged))]
 pub fn judged(
     size: CodeSize,
     pre: &Prefixes,
@@ -67,7 +67,8 @@ pub fn judged(
     requires opcode { IsOpcode op }
     requires modrm { ForSome modrm IsModRm }
     requires imm { imm < 2 ^ (8 * imm_width (opsize_of size pre.now shape.now.width) (adsize_of size pre.now.adsize) shape.now.imm) }
-    requires address { is_address shape.now.imm ≡ is_offset op }
+    requires shape { IsShapeOf op shape.now }
+    requires kind { is_kind shape.now.operand modrm ≡ true }
     ensures value { result ≡ judged size pre.now op shape.now modrm imm imm2 }
     ensures valid { IsVerdict size result }
 {

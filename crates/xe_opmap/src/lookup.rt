@@ -58,7 +58,7 @@ pub fn cell_at(setting: Setting, op: u16, reg: u8) -> Cell
     requires opcode { IsOpcode op }
     requires reg { reg < 8 }
     ensures value { result ≡ cell_at setting op reg }
-    ensures address { IsCellOf op result }
+    ensures cell { IsCellOf op result }
 {
     cell_of(setting, op, reg)
 }
