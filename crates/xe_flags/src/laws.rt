@@ -1,6 +1,7 @@
 //! Laws of the definitions, for the crates above.
 
 ghost use Rattle.std.specs.Prelude.{◌≡◌, ℕ, Bool, ◌<◌, ◌^◌};
+ghost use Rattle.xe_base.specs.Calm.{fixed_flags};
 ghost use Rattle.xe_flags.specs.Arithmetic.{alu_flags};
 ghost use Rattle.xe_flags.specs.Bits.{bit_flags};
 ghost use Rattle.xe_flags.specs.Decimals.{bcd_flags};
@@ -41,4 +42,10 @@ pub fn other_flags_stay()
     ensures bcd { (op : BcdOp) → (ax : ℕ) → (imm : ℕ) → (flags : ℕ) → SameOthers flags (bcd_flags op ax imm flags) }
     ensures bit { (W : ℕ) → (a : ℕ) → (index : ℕ) → (flags : ℕ) → SameOthers flags (bit_flags W a index flags) }
     ensures scan { (op : ScanOp) → (a : ℕ) → (flags : ℕ) → SameOthers flags (scan_flags op a flags) }
+{}
+
+/// To change the six alone is a calm change of the flags.
+#[tactic(auto, using(crate::proofs::FlagSet::fixed_kept))]
+pub fn status_changes_are_calm()
+    ensures { (old : ℕ) → (new : ℕ) → SameOthers old new → fixed_flags new ≡ fixed_flags old }
 {}

@@ -3,7 +3,7 @@
 
 ghost use Rattle.std.specs.Prelude.{◌≡◌, nat_lt};
 
-use crate::laws::{flags_are_read_back, other_flags_stay};
+use crate::laws::{flags_are_read_back, other_flags_stay, status_changes_are_calm};
 use crate::{
     AluOp, BcdOp, BitOp, DivFault, ScanOp, ShiftOp, UnOp, alu, bcd, bit, condition, div,
     double_shift, mul, scan, shift, unary,
@@ -228,6 +228,7 @@ fn is_below(a: u32, b: u32, flags: u64) -> bool
 fn compares_and_tests(rt: HostRuntime) -> Result<(), Fail> {
     flags_are_read_back();
     other_flags_stay();
+    status_changes_are_calm();
     assert!(rt; is_below(1, 0xFFFF_FFFE, 0x2));
     assert!(rt; condition(0xC, 0x80));
     assert!(rt; !condition(0xF, 0x880 | 0x40));
