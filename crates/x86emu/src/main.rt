@@ -2,10 +2,9 @@
 //! standard output are handed to the top call, whose status is the program's.
 #![tactic(auto)]
 
-use std::env;
 use std::env::Env;
-use std::io;
 use std::process::ExitCode;
+use std::{env, io};
 use xe_run::{ReaderSource, WriterSink, run};
 
 /// The status where the system doesn't give the words.

@@ -63,7 +63,7 @@ all_of P left (Some r) text now same taken bounded ended h = rw taken (subst P (
 rest_of : (most : ℕ) (text rest : List ℕ) → length text ≤ most → (length text < most → rest ≡ []) → drop most (text ++ rest) ≡ rest
 rest_of most text rest bounded ended =
     elim (cases_lt (length text) most) [
-      | inl lt ↦ rw (ended lt) (drop_all most (text ++ []) (omega (arith, length-append text [])) )
+      | inl lt ↦ rw (ended lt) (drop_all most (text ++ []) (omega (arith, length-append text [])))
       | inr le ↦ (let e : most ≡ length text = omega arith in ap (λ (k : ℕ). drop k (text ++ rest)) e ∙ drop-append_seam text rest)
     ]
 

@@ -222,7 +222,8 @@ impl Driver {
         ensures after { world self.new ≡ record (world self.old) { tape = with_device (tape_of self.old.bus) space dir address items.now.items } }
         ensures room { Feeds self.old (Command.Dev space dir address items.now) self.new }
     {
-        self.bus.feed(space, is_write(dir), address, items.as_slice());
+        self.bus
+            .feed(space, is_write(dir), address, items.as_slice());
     }
 
     /// Obeys one command.
@@ -250,7 +251,11 @@ impl Driver {
     }
 
     /// Obeys the commands in order, and writes the line of each event at once.
-    pub(crate) fn obey_all<K: Sink>(&mut self, commands: &Commands, out: &mut K) -> Result<(), Failed>
+    pub(crate) fn obey_all<K: Sink>(
+        &mut self,
+        commands: &Commands,
+        out: &mut K,
+    ) -> Result<(), Failed>
         requires { HasRoomFor self.old commands.now }
         ensures writes { Writes result (K.written out.old) (text (spec.drive_from (world self.old) commands.now)) (K.written out.new) }
         ensures count { K.faults out.old ≤ K.faults out.new }

@@ -12,7 +12,10 @@ use xe_core::{Handoff, Row};
 #[derive(Clone, Copy, Debug, Drop)]
 pub enum Event {
     /// A device access was answered, after so many replies of "not yet".
-    Io { made: Made, waits: u64 },
+    Io {
+        made: Made,
+        waits: u64,
+    },
     /// Some steps finished: the last one's instruction, how many they are, the registers before and
     /// after them, and what the last one's retirement brings with it.
     Step {
@@ -23,9 +26,15 @@ pub enum Event {
         retire: u8,
     },
     /// A step ended by an exception.
-    Fault { row: Option<Row>, fault: Fault },
+    Fault {
+        row: Option<Row>,
+        fault: Fault,
+    },
     /// A step ended by something that is left to the caller.
-    Handoff { row: Option<Row>, handoff: Handoff },
+    Handoff {
+        row: Option<Row>,
+        handoff: Handoff,
+    },
     /// A step ended at an instruction that isn't built.
     Unbuilt(Option<Row>),
     /// A draft of the registers was refused, for this rule of a valid state.

@@ -18,9 +18,9 @@ mod top;
 
 pub use adapters::{ReaderSource, WriterSink};
 pub use memory::{ListSource, SteadySource, VecSink};
+pub use outside::{Failed, Sink, Source};
 pub use status::Status;
 pub use top::run;
-pub use outside::{Failed, Sink, Source};
 
 #[cfg(test)]
 mod tests;

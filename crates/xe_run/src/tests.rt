@@ -8,7 +8,8 @@ const PORT_READ: &str =
 
 const FIRST_LINE: &[u8] = b"step mov 1 rip=7c03 flags=2 rax=41\n";
 
-const TRACE: &[u8] = b"step mov 1 rip=7c03 flags=2 rax=41\nio port r 60 1 5a 0\nstep in 1 rip=7c05 flags=2 rax=5a\nstep hlt 1 rip=7c06 flags=2 retire=4\n";
+const TRACE: &[u8] =
+    b"step mov 1 rip=7c03 flags=2 rax=41\nio port r 60 1 5a 0\nstep in 1 rip=7c05 flags=2 rax=5a\nstep hlt 1 rip=7c06 flags=2 retire=4\n";
 
 fn words(alloc: Global, text: &str) -> Result<Vec<String>, Fail> {
     let mut words = Vec::new(alloc);
@@ -56,7 +57,10 @@ fn runs_a_scene(rt: HostRuntime) -> Result<(), Fail> {
 fn refuses_a_bad_line(rt: HostRuntime) -> Result<(), Fail> {
     let (status, bytes, _) = ran(rt.alloc(), "run", "x86emu 1\nrun 1\nbatch 3\n", &[], &[])?;
     assert_eq!(rt; status, Status::Refused);
-    assert_eq!(rt; bytes.as_slice(), b"refused line 3 reason 15 not built\n".as_slice());
+    assert_eq!(rt;
+        bytes.as_slice(),
+        b"refused line 3 reason 15 not built\n".as_slice()
+    );
     Ok(())
 }
 
@@ -65,7 +69,10 @@ fn reads_nothing_for_other_words(rt: HostRuntime) -> Result<(), Fail> {
     for asked in ["run x", "gen 01 1", "check", ""] {
         let (status, bytes, reads) = ran(rt.alloc(), asked, PORT_READ, &[], &[])?;
         assert_eq!(rt; status, Status::Usage);
-        assert_eq!(rt; bytes.as_slice(), b"usage: x86emu run | check | gen SEED COUNT\n".as_slice());
+        assert_eq!(rt;
+            bytes.as_slice(),
+            b"usage: x86emu run | check | gen SEED COUNT\n".as_slice()
+        );
         assert_eq!(rt; reads, 0);
     }
     Ok(())
