@@ -9,7 +9,7 @@ use Rattle.xe_modrm.specs.declared.part.Part.TheVariants.{Got, More}
 use Rattle.xe_modrm.specs.declared.part.Prefixes.{Prefixes}
 
 -- Prefixes: SDM volume 2, section 2.1.1; REX, and the prefixes that 64-bit code ignores:
--- section 2.2.1 and volume 1, section 3.3.7.1. That a redundant prefix is ignored, and that of
+-- section 2.2.1 and volume 1, section 3.4.2.1. That a redundant prefix is ignored, and that of
 -- several in one group the last counts, is this project's choice.
 
 abbrev pub is_64_bit : CodeSize → Bool

@@ -21,13 +21,13 @@ use Rattle.xe_opmap.specs.Encoding.{immediates_part, operand_rest, modrm_part, a
 
 -- Each part of the grammar decides by the bytes that it takes, and some bytes let it decide.
 
-number_reader : (n : ℕ) → IsReader (number_part n)
+pub number_reader : (n : ℕ) → IsReader (number_part n)
 number_reader n = both_reader (some_bytes n) (λ bs. given (num bs)) (some_reader n) (λ bs. given_reader (num bs))
 
 extended_reader : (n opsize : ℕ) → IsReader (extended_part n opsize)
 extended_reader n opsize = both_reader (some_bytes n) (λ bs. given (extended n opsize (num bs))) (some_reader n) (λ bs. given_reader (extended n opsize (num bs)))
 
-first_reader : (opsize adsize : ℕ) (i : Imm) → IsReader (first_part opsize adsize i)
+pub first_reader : (opsize adsize : ℕ) (i : Imm) → IsReader (first_part opsize adsize i)
 first_reader opsize adsize imm.Nothing = number_reader 0
 first_reader opsize adsize imm.Byte = number_reader 1
 first_reader opsize adsize imm.SignedByte = extended_reader 1 opsize
@@ -60,7 +60,7 @@ after_modrm_reader : (size : CodeSize) (pre : Prefixes) (op : ℕ) (s : Shape) (
 unfolding after_modrm
 after_modrm_reader size pre op s m = both_reader _ _ (rest_reader size pre s.operand m) (after_operand_reader size pre op s)
 
-modrm_reader : (size : CodeSize) (pre : Prefixes) (kind : Operand) → IsReader (modrm_part size pre kind)
+pub modrm_reader : (size : CodeSize) (pre : Prefixes) (kind : Operand) → IsReader (modrm_part size pre kind)
 unfolding modrm_part
 modrm_reader size pre kind = both_reader _ _ one_reader (rest_reader size pre kind)
 

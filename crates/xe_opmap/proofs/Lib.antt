@@ -5,3 +5,4 @@ pub mod DecodeLaws
 pub mod PartsLaws
 pub mod RelationLaws
 pub mod NeedLaws
+pub mod AllPartsLaws

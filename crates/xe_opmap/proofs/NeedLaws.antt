@@ -1,5 +1,5 @@
-use Rattle.std.proofs.Common.{◌≡◌, ℕ, Bool, true, false, refl, arith, ap, sym, ◌∙◌, Option, Some, None, ◌||◌, ◌&&◌}
-use Rattle.std.specs.Prelude.{not, IsTrue, ◌==◌}
+use Rattle.std.proofs.Common.{◌≡◌, Bool, true, false, refl, arith, ap, Option, Some, None, ◌&&◌}
+use Rattle.std.specs.Prelude.{not, ◌==◌}
 use Rattle.std.proofs.lemmas.Bool.{or_parts}
 use Rattle.std.proofs.lemmas.Bool.Decides.{nat_tests}
 use Rattle.xe_modrm.specs.declared.part.Prefixes.{Prefixes}

@@ -6,7 +6,7 @@ use Rattle.xe_modrm.specs.declared.part.Part.TheVariants.{Got, More}
 use Rattle.xe_opmap.specs.declared.shape.Imm.{Imm}
 use Rattle.xe_opmap.specs.declared.shape.Imm.TheVariants as imm
 
--- Immediates: SDM volume 2, section 2.1.5 and the codes of section 3.1.1.1 (ib, iw, id); moffs and
+-- Immediates: SDM volume 2, section 2.1.4 and the codes of section 3.1.1.1 (ib, iw, id); moffs and
 -- far pointers: appendix A.2.1, codes O and A. Sizes are in bytes.
 
 -- an iz immediate: 2 bytes at operand size 16, otherwise 4

@@ -5,3 +5,4 @@ pub mod Immediate
 pub mod Encoding
 pub mod Valid
 pub mod Relations
+pub mod Parts

@@ -1,4 +1,5 @@
 ghost use Rattle.xe_opmap.specs.Relations.{AreApart, CoverAll, FromParts, ToParts};
+ghost use Rattle.xe_opmap.specs.Parts.{SpelledHasParts, AllPartsSpell};
 
 /// No list of bytes that is an instruction, an invalid encoding or one outside the table begins a
 /// different list of that kind, and none is of two kinds.
@@ -17,4 +18,11 @@ pub fn encodings_cover_all()
 pub fn encodings_have_parts()
     ensures from { FromParts }
     ensures to { ToParts }
+{}
+
+/// Bytes spell an instruction exactly where they are prefixes, opcode, operand and immediates, one
+/// after another, of one row of the opcode maps, and the instruction holds what they mean.
+pub fn instructions_have_all_parts()
+    ensures to { SpelledHasParts }
+    ensures from { AllPartsSpell }
 {}
