@@ -1,0 +1,17 @@
+pub mod Supplies
+pub mod Binds
+pub mod Asking
+pub mod Trees
+pub mod Cut
+pub mod Work
+pub mod Holes
+pub mod MachineLaws
+pub mod FetchLaws
+pub mod SegmentLaws
+pub mod Pieces
+pub mod Stores
+pub mod Calls
+pub mod Locates
+pub mod Frames
+pub mod NextLaws
+pub mod FinishLaws

@@ -1,0 +1,135 @@
+use Rattle.std.specs.Prelude.{ℕ, zero, suc, ◌+◌, ◌-◌, ◌%◌, ◌^◌, List, [], ◌∷◌, Bool, true, false, nat_le, if◌then◌else◌, take, drop, length, Result, Ok, Err}
+use Rattle.xe_base.specs.Access.{number_of}
+use Rattle.xe_base.specs.Bytes.{num, le}
+use Rattle.xe_base.specs.Ram.{Area, in_ram, bytes_of, put_bytes}
+use Rattle.xe_base.specs.declared.access.Access.{Access}
+use Rattle.xe_base.specs.declared.access.Fault.{Fault}
+use Rattle.xe_base.specs.declared.access.Space.TheVariants.{Mem}
+use Rattle.xe_base.specs.declared.segment.SegName.{SegName}
+use Rattle.xe_ctx.specs.Chunks.{chunks}
+use Rattle.xe_ctx.specs.Part.{Part, ◌>>=◌, give, stop, look, change, ask, gather, each}
+use Rattle.xe_ctx.specs.Segment.{linear_of}
+use Rattle.xe_ctx.specs.declared.chunk.Chunk.{Chunk}
+use Rattle.xe_ctx.specs.declared.stop.Stop.TheVariants.{Fault as Faults}
+
+-- Accesses to memory: the segment check, the cut at page ends, the translation of all pieces, and then the bytes, piece by piece from the lowest on.
+
+-- ---- devices
+
+abbrev pub mem_read : ℕ → ℕ → Access
+mem_read pa size = record { space = Mem; write = false; address = pa; size = size; value = 0 }
+
+abbrev pub mem_write : ℕ → ℕ → ℕ → Access
+mem_write pa size value = record { space = Mem; write = true; address = pa; size = size; value = value }
+
+-- a chunk read gives its bytes
+unfoldable pub chunk_read : Chunk → Part (List ℕ)
+chunk_read c = do
+  a ← ask (mem_read c.pa c.size)
+  give (le c.size (number_of a))
+
+-- a chunk write takes its bytes of those of the access
+unfoldable pub chunk_write : List ℕ → Chunk → Part (Unit {0})
+chunk_write bytes c = do
+  _ ← ask (mem_write c.pa c.size (num (take c.size (drop c.at bytes))))
+  give tt
+
+-- n bytes of devices
+unfoldable pub devices_read : ℕ → ℕ → Part (List ℕ)
+devices_read pa n = gather chunk_read (chunks pa n)
+
+-- the bytes go to devices
+unfoldable pub devices_write : ℕ → List ℕ → Part (Unit {0})
+devices_write pa bytes = each (chunk_write bytes) (chunks pa (length bytes))
+
+-- ---- pieces
+
+-- a piece of an access: its linear address, its place in the access and its length
+pub record Piece : Type 0 where
+  pub la : ℕ
+  pub at : ℕ
+  pub n : ℕ
+
+-- a piece that was translated: its physical address
+pub record Place : Type 0 where
+  pub pa : ℕ
+  pub at : ℕ
+  pub n : ℕ
+
+-- the linear address behind the page's end; addresses have 32 bits
+abbrev pub next_page : ℕ → ℕ
+next_page la = (la + (4096 - la % 4096)) % 2 ^ 32
+
+-- at most 4096 bytes, cut at a page's end
+unfoldable pub pieces : ℕ → ℕ → List Piece
+pieces la n =
+    if nat_le (la % 4096 + n) 4096
+    then record { la = la; at = 0; n = n } ∷ []
+    else record { la = la; at = 0; n = 4096 - la % 4096 } ∷ record { la = next_page la; at = 4096 - la % 4096; n = n - (4096 - la % 4096) } ∷ []
+
+-- the physical address of a linear one, to be written or read; without paging it is the same
+unfoldable pub place : Bool → ℕ → Part ℕ
+place write la = give la
+
+unfoldable pub place_piece : Bool → Piece → Part (List Place)
+place_piece write p = do
+  pa ← place write p.la
+  give (record { pa = pa; at = p.at; n = p.n } ∷ [])
+
+-- ---- bytes
+
+-- each of the n bytes is RAM
+unfoldable pub are_ram : List Area → ℕ → ℕ → Bool
+are_ram ram pa zero = true
+are_ram ram pa (suc n) = if in_ram ram pa then are_ram ram (pa + 1) n else false
+
+unfoldable pub read_if : Bool → Place → Part (List ℕ)
+read_if true p = look (λ v. bytes_of v.work p.pa p.n)
+read_if false p = devices_read p.pa p.n
+
+-- a piece is read: of the RAM as the step sees it, or of devices
+unfoldable pub read_place : Place → Part (List ℕ)
+read_place p = do
+  here ← look (λ v. are_ram v.work p.pa p.n)
+  read_if here p
+
+unfoldable pub write_if : Bool → ℕ → List ℕ → Part (Unit {0})
+write_if true pa bytes = change (λ ram. put_bytes ram pa bytes)
+write_if false pa bytes = devices_write pa bytes
+
+-- bytes within a page go into the RAM as the step sees it, or to devices
+unfoldable pub write_bytes : ℕ → List ℕ → Part (Unit {0})
+write_bytes pa bytes = do
+  here ← look (λ v. are_ram v.work pa (length bytes))
+  write_if here pa bytes
+
+unfoldable pub write_place : List ℕ → Place → Part (Unit {0})
+write_place bytes p = write_bytes p.pa (take p.n (drop p.at bytes))
+
+-- all pieces are translated before any byte moves
+unfoldable pub load_at : Bool → ℕ → ℕ → Part (List ℕ)
+load_at write la n = do
+  places ← gather (place_piece write) (pieces la n)
+  gather read_place places
+
+unfoldable pub store_at : ℕ → List ℕ → Part (Unit {0})
+store_at la bytes = do
+  places ← gather (place_piece true) (pieces la (length bytes))
+  each (write_place bytes) places
+
+unfoldable pub probe_at : ℕ → ℕ → Part (Unit {0})
+probe_at la n = do
+  _ ← gather (place_piece true) (pieces la n)
+  give tt
+
+-- ---- the segment
+
+abbrev pub judged : Result ℕ Fault → Part ℕ
+judged (Ok la) = give la
+judged (Err f) = stop (Faults f)
+
+-- the linear address, or the exception
+unfoldable pub locate : SegName → ℕ → ℕ → Bool → Part ℕ
+locate seg offset n write = do
+  found ← look (λ v. linear_of v.start.cpu seg offset n write)
+  judged found

@@ -1,0 +1,47 @@
+use Rattle.std.specs.Prelude.{true, false, Option, Some, None}
+use Rattle.xe_base.specs.Bytes.{num, le}
+use Rattle.xe_base.specs.declared.access.Answer.{Answer}
+use Rattle.xe_base.specs.declared.access.Answer.TheVariants.{Val}
+use Rattle.xe_icpt.specs.declared.exit.Exit.{Exit}
+use Rattle.xe_ctx.specs.Memory.{locate, load_at, store_at, probe_at}
+use Rattle.xe_ctx.specs.Part.{Part, Gave, Stops, then_ran, ◌>>=◌, give, stop, look, ask}
+use Rattle.xe_ctx.specs.Tree.{Tree, asks, fault, event, handoff, Request, Load, LoadForWrite, Probe, Store, Device, Check}
+use Rattle.xe_ctx.specs.Tree.{give as gives}
+use Rattle.xe_ctx.specs.declared.stop.Stop.TheVariants.{Fault as Faults, Intercept, Event as Events, Handoff as Hands}
+
+-- a point that is intercepted ends the step
+abbrev pub unless_hit : Option Exit → Part (Unit {0})
+unless_hit None = give tt
+unless_hit (Some e) = stop (Intercept e)
+
+-- what a request does; its answer is 0 where nothing is read
+unfoldable pub do_request : Request → Part Answer
+do_request (Load seg offset n) = do
+  la ← locate seg offset n false
+  bytes ← load_at false la n
+  give (Val (num bytes))
+do_request (LoadForWrite seg offset n) = do
+  la ← locate seg offset n true
+  bytes ← load_at true la n
+  give (Val (num bytes))
+do_request (Probe seg offset n) = do
+  la ← locate seg offset n true
+  _ ← probe_at la n
+  give (Val 0)
+do_request (Store seg offset n value) = do
+  la ← locate seg offset n true
+  _ ← store_at la (le n value)
+  give (Val 0)
+do_request (Device a) = ask a
+do_request (Check p) = do
+  hit ← look (λ v. v.hits p)
+  _ ← unless_hit hit
+  give (Val 0)
+
+-- the whole part of an instruction
+abbrev pub run : {T : Type 0} → Tree T → Part T
+run (asks r k) v s = then_ran (do_request r v s) (λ a. run (k a))
+run (fault e) v s = Stops (Faults e) v s
+run (event e) v s = Stops (Events e) v s
+run (handoff h) v s = Stops (Hands h) v s
+run (gives x) v s = Gave x v s

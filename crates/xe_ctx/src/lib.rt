@@ -1,0 +1,24 @@
+//! One step in progress over a machine, its devices and what is intercepted; and the types that all
+//! instructions share.
+#![tactic(auto)]
+
+pub mod bus;
+mod chunk;
+pub mod ctx;
+pub mod laws;
+pub mod machine;
+mod memory;
+pub mod operand;
+mod overlay;
+pub mod report;
+pub mod stop;
+
+pub use bus::Bus;
+pub use ctx::Ctx;
+pub use machine::{Machine, NotRam};
+pub use operand::Operand;
+pub use report::{Outcome, Report};
+pub use stop::{Event, EventKind, Finish, Flow, Handoff, Stop};
+
+#[cfg(test)]
+mod tests;

@@ -1,0 +1,358 @@
+//! Accesses to memory: the segment check, the cut at page ends, and the bytes, from RAM or from
+//! devices.
+#![tactic(auto, using(crate::proofs::Binds::part_rules))]
+
+ghost use Rattle.std.specs.Prelude.{◌≡◌, ℕ, ◌+◌, ◌-◌, ◌*◌, ◌<◌, ◌≤◌, ◌^◌, ◌%◌, length, Result, Ok, Err, IfOk, IsTrue, true};
+ghost use Rattle.xe_base.specs.Access.{IsWellFormed, answers_to};
+ghost use Rattle.xe_base.specs.Bytes.{num};
+ghost use Rattle.xe_ctx.specs.Chunks.{chunks, Within, IsChunkSize, is_size, most};
+ghost use Rattle.xe_ctx.specs.Is.{Does, Is};
+ghost use Rattle.xe_ctx.specs.Memory.{chunk_read, chunk_write, devices_read, devices_write, place, read_place, write_bytes, load_at, store_at, probe_at, locate};
+ghost use Rattle.xe_ctx.specs.Part.{ask};
+ghost use Rattle.xe_ctx.specs.Tree.{load, load_for_write, probe, store};
+ghost use Rattle.xe_ctx.specs.View.{view, SameHandles, IsOpen, accesses_left, bytes_left, bytes_in};
+
+use crate::bus::{Bus, value_of};
+use crate::chunk::{Chunk, append, bytes_of, chunks_of, number_of};
+use crate::ctx::Ctx;
+use crate::overlay::push_cells;
+use crate::stop::Stop;
+use arrayvec::ArrayVec;
+use xe_base::{Access, Answer, Made, SegName, Space};
+use xe_icpt::Intercepts;
+
+impl<'a, B: Bus, I: Intercepts> Ctx<'a, B, I> {
+    /// Reads `n` bytes at an offset of a segment, the lowest first. Those outside RAM are read from
+    /// devices, by naturally aligned accesses of at most 8 bytes, the lowest first.
+    #[tactic(auto, using(crate::proofs::Calls::call_rules))]
+    pub fn load(&mut self, seg: SegName, offset: u64, n: u32) -> Result<u128, Stop>
+        requires open { IsOpen B.sight self.old }
+        requires size { is_size n ≡ true }
+        requires accesses { most n ≤ accesses_left self.old }
+        requires bytes { 10 ≤ bytes_left self.old }
+        ensures same { SameHandles self.old self.new }
+        ensures open { IsOpen B.sight self.new }
+        ensures accesses { accesses_left self.old ≤ accesses_left self.new + most n }
+        ensures bytes { bytes_left self.old ≤ bytes_left self.new + 10 }
+        ensures fits { IfOk result (λ v. v < 2 ^ (8 * n)) }
+        ensures part { Is (load seg offset n) (view B.sight I.hits self.old) result (view B.sight I.hits self.new) }
+    {
+        let la = self.locate(seg, offset, n, false)?;
+        let bytes = self.load_at(la, n as usize, false)?;
+        Ok(number_of(bytes.as_slice()))
+    }
+
+    /// Reads as [`Ctx::load`] does, where the bytes must be writable too.
+    #[tactic(auto, using(crate::proofs::Calls::call_rules))]
+    pub fn load_for_write(&mut self, seg: SegName, offset: u64, n: u32) -> Result<u128, Stop>
+        requires open { IsOpen B.sight self.old }
+        requires size { is_size n ≡ true }
+        requires accesses { most n ≤ accesses_left self.old }
+        requires bytes { 10 ≤ bytes_left self.old }
+        ensures same { SameHandles self.old self.new }
+        ensures open { IsOpen B.sight self.new }
+        ensures accesses { accesses_left self.old ≤ accesses_left self.new + most n }
+        ensures bytes { bytes_left self.old ≤ bytes_left self.new + 10 }
+        ensures fits { IfOk result (λ v. v < 2 ^ (8 * n)) }
+        ensures part { Is (load_for_write seg offset n) (view B.sight I.hits self.old) result (view B.sight I.hits self.new) }
+    {
+        let la = self.locate(seg, offset, n, true)?;
+        let bytes = self.load_at(la, n as usize, true)?;
+        Ok(number_of(bytes.as_slice()))
+    }
+
+    /// Makes the checks of a store, and moves nothing.
+    #[tactic(auto, using(crate::proofs::Calls::call_rules))]
+    pub fn probe(&mut self, seg: SegName, offset: u64, n: u32) -> Result<(), Stop>
+        requires open { IsOpen B.sight self.old }
+        requires size { is_size n ≡ true }
+        requires bytes { 10 ≤ bytes_left self.old }
+        ensures same { SameHandles self.old self.new }
+        ensures open { IsOpen B.sight self.new }
+        ensures accesses { accesses_left self.old ≤ accesses_left self.new }
+        ensures bytes { bytes_left self.old ≤ bytes_left self.new + 10 }
+        ensures part { Is (probe seg offset n) (view B.sight I.hits self.old) result (view B.sight I.hits self.new) }
+    {
+        let la = self.locate(seg, offset, n, true)?;
+        self.probe_at(la, n as usize)
+    }
+
+    /// Writes the `n` bytes of a number at an offset of a segment, the lowest first. RAM changes
+    /// only where the step is committed; the bytes outside RAM go to devices at once, as in
+    /// [`Ctx::load`].
+    #[tactic(auto, using(crate::proofs::Calls::call_rules))]
+    pub fn store(&mut self, seg: SegName, offset: u64, n: u32, value: u128) -> Result<(), Stop>
+        requires open { IsOpen B.sight self.old }
+        requires size { is_size n ≡ true }
+        requires fits { value < 2 ^ (8 * n) }
+        requires accesses { most n ≤ accesses_left self.old }
+        requires bytes { 10 + n ≤ bytes_left self.old }
+        ensures same { SameHandles self.old self.new }
+        ensures open { IsOpen B.sight self.new }
+        ensures accesses { accesses_left self.old ≤ accesses_left self.new + most n }
+        ensures bytes { bytes_left self.old ≤ bytes_left self.new + (10 + n) }
+        ensures part { Is (store seg offset n value) (view B.sight I.hits self.old) result (view B.sight I.hits self.new) }
+    {
+        let la = self.locate(seg, offset, n, true)?;
+        let bytes = bytes_of(n as usize, value);
+        self.store_at(la, bytes.as_slice())
+    }
+
+    /// The linear address of an operand, or the exception that it raises.
+    #[tactic(auto, using(crate::proofs::Locates::locate_rules))]
+    fn locate(&mut self, seg: SegName, offset: u64, n: u32, write: bool) -> Result<u64, Stop>
+        requires open { IsOpen B.sight self.old }
+        requires some { 0 < n }
+        ensures same { SameHandles self.old self.new }
+        ensures open { IsOpen B.sight self.new }
+        ensures accesses { accesses_left self.new ≡ accesses_left self.old }
+        ensures bytes { bytes_left self.new ≡ bytes_left self.old }
+        ensures below { IfOk result (λ la. la < 2 ^ 32) }
+        ensures part { Does (locate seg offset n write) (view B.sight I.hits self.old) result (view B.sight I.hits self.new) }
+    {
+        match self.m.linear(seg, offset, n, write) {
+            Ok(la) => Ok(la),
+            Err(fault) => Err(Stop::Fault(fault)),
+        }
+    }
+
+    /// The physical address of a linear one, to be written or read.
+    #[tactic(auto, using(crate::proofs::Binds::part_rules), unfolding(crate::specs::Memory::place))]
+    fn place(&mut self, la: u64, write: bool) -> Result<u64, Stop>
+        requires open { IsOpen B.sight self.old }
+        requires fits { la < 2 ^ 32 }
+        requires bytes { 5 ≤ bytes_left self.old }
+        ensures same { SameHandles self.old self.new }
+        ensures open { IsOpen B.sight self.new }
+        ensures accesses { accesses_left self.old ≤ accesses_left self.new }
+        ensures bytes { bytes_left self.old ≤ bytes_left self.new + 5 }
+        ensures page { IfOk result (λ pa. pa % 4096 ≡ la % 4096) }
+        ensures below { IfOk result (λ pa. pa < 2 ^ 40) }
+        ensures part { Does (place write la) (view B.sight I.hits self.old) result (view B.sight I.hits self.new) }
+    {
+        let _ = write;
+        Ok(la)
+    }
+
+    /// One access to a device.
+    pub(crate) fn ask(&mut self, a: Access) -> Result<Answer, Stop>
+        requires open { IsOpen B.sight self.old }
+        requires well_formed { IsWellFormed a }
+        requires accesses { 1 ≤ accesses_left self.old }
+        ensures same { SameHandles self.old self.new }
+        ensures open { IsOpen B.sight self.new }
+        ensures accesses { accesses_left self.old ≤ accesses_left self.new + 1 }
+        ensures bytes { bytes_left self.new ≡ bytes_left self.old }
+        ensures fits { IfOk result (λ r. IsTrue (answers_to a r)) }
+        ensures part { Does (ask a) (view B.sight I.hits self.old) result (view B.sight I.hits self.new) }
+    {
+        let answer = self.bus.access(a);
+        self.made.push(Made { access: a, answer });
+        Ok(answer)
+    }
+
+    /// One chunk is read.
+    #[tactic(auto, using(crate::proofs::Binds::part_rules, xe_base::proofs::Bytes::byte_rules), unfolding(crate::specs::Memory::chunk_read))]
+    fn read_chunk(&mut self, c: Chunk) -> Result<ArrayVec<u8, 16>, Stop>
+        requires open { IsOpen B.sight self.old }
+        requires accesses { 1 ≤ accesses_left self.old }
+        requires aligned { IsChunkSize c.size }
+        ensures same { SameHandles self.old self.new }
+        ensures open { IsOpen B.sight self.new }
+        ensures accesses { accesses_left self.old ≤ accesses_left self.new + 1 }
+        ensures bytes { bytes_left self.new ≡ bytes_left self.old }
+        ensures size { IfOk result (λ bytes. length bytes.items ≡ c.size) }
+        ensures part { Does (chunk_read c) (view B.sight I.hits self.old) (bytes_in result) (view B.sight I.hits self.new) }
+    {
+        let answer = self.ask(Access {
+            space: Space::Mem,
+            write: false,
+            address: c.pa,
+            size: c.size as u8,
+            value: 0,
+        })?;
+        Ok(bytes_of(c.size, value_of(answer) as u128))
+    }
+
+    /// Reads n bytes of devices, chunk by chunk.
+    #[tactic(auto, using(crate::proofs::Binds::part_rules, crate::proofs::Binds::loop_rules), unfolding(crate::specs::Memory::devices_read))]
+    fn read_devices(&mut self, pa: u64, n: usize) -> Result<ArrayVec<u8, 16>, Stop>
+        requires open { IsOpen B.sight self.old }
+        requires small { n ≤ 16 }
+        requires fits { pa < 2 ^ 52 }
+        requires accesses { length (chunks pa n) ≤ accesses_left self.old }
+        ensures same { SameHandles self.old self.new }
+        ensures open { IsOpen B.sight self.new }
+        ensures accesses { accesses_left self.old ≤ accesses_left self.new + length (chunks pa n) }
+        ensures bytes { bytes_left self.new ≡ bytes_left self.old }
+        ensures size { IfOk result (λ bytes. length bytes.items ≡ n) }
+        ensures part { Does (devices_read pa n) (view B.sight I.hits self.old) (bytes_in result) (view B.sight I.hits self.new) }
+    {
+        let chunks = chunks_of(pa, n);
+        let mut all = ArrayVec::new();
+        for c in chunks.as_slice() {
+            let bytes = self.read_chunk(*c)?;
+            append(&mut all, bytes.as_slice());
+        }
+        Ok(all)
+    }
+
+    /// One chunk is written, of the bytes of the access.
+    #[tactic(auto, using(crate::proofs::Binds::part_rules), unfolding(crate::specs::Memory::chunk_write))]
+    fn write_chunk(&mut self, c: Chunk, bytes: &[u8]) -> Result<(), Stop>
+        requires open { IsOpen B.sight self.old }
+        requires accesses { 1 ≤ accesses_left self.old }
+        requires within { Within (length bytes.now) c }
+        ensures same { SameHandles self.old self.new }
+        ensures open { IsOpen B.sight self.new }
+        ensures accesses { accesses_left self.old ≤ accesses_left self.new + 1 }
+        ensures bytes { bytes_left self.new ≡ bytes_left self.old }
+        ensures part { Does (chunk_write bytes.now c) (view B.sight I.hits self.old) result (view B.sight I.hits self.new) }
+    {
+        let value = number_of(&bytes[c.at..c.at + c.size]);
+        let _ = self.ask(Access {
+            space: Space::Mem,
+            write: true,
+            address: c.pa,
+            size: c.size as u8,
+            value: value as u64,
+        })?;
+        Ok(())
+    }
+
+    /// Writes bytes to devices, chunk by chunk.
+    #[tactic(auto, using(crate::proofs::Binds::part_rules, crate::proofs::Binds::loop_rules), unfolding(crate::specs::Memory::devices_write))]
+    fn write_devices(&mut self, pa: u64, bytes: &[u8]) -> Result<(), Stop>
+        requires open { IsOpen B.sight self.old }
+        requires small { length bytes.now ≤ 16 }
+        requires fits { pa < 2 ^ 52 }
+        requires accesses { length (chunks pa (length bytes.now)) ≤ accesses_left self.old }
+        ensures same { SameHandles self.old self.new }
+        ensures open { IsOpen B.sight self.new }
+        ensures accesses { accesses_left self.old ≤ accesses_left self.new + length (chunks pa (length bytes.now)) }
+        ensures bytes { bytes_left self.new ≡ bytes_left self.old }
+        ensures part { Does (devices_write pa bytes.now) (view B.sight I.hits self.old) result (view B.sight I.hits self.new) }
+    {
+        let chunks = chunks_of(pa, bytes.len());
+        for c in chunks.as_slice() {
+            self.write_chunk(*c, bytes)?;
+        }
+        Ok(())
+    }
+
+    /// A piece is read, of the RAM or of devices.
+    #[tactic(auto, using(crate::proofs::Binds::part_rules, crate::proofs::Pieces::piece_rules))]
+    fn read_piece(&mut self, pa: u64, n: usize) -> Result<ArrayVec<u8, 16>, Stop>
+        requires open { IsOpen B.sight self.old }
+        requires small { n ≤ 16 }
+        requires fits { pa < 2 ^ 52 }
+        requires accesses { length (chunks pa n) ≤ accesses_left self.old }
+        ensures same { SameHandles self.old self.new }
+        ensures open { IsOpen B.sight self.new }
+        ensures accesses { accesses_left self.old ≤ accesses_left self.new + length (chunks pa n) }
+        ensures bytes { bytes_left self.new ≡ bytes_left self.old }
+        ensures size { IfOk result (λ bytes. length bytes.items ≡ n) }
+        ensures part { (at : ℕ) → Does (read_place (record { pa = pa; at = at; n = n })) (view B.sight I.hits self.old) (bytes_in result) (view B.sight I.hits self.new) }
+    {
+        if !self.m.is_ram(pa, n as u64) {
+            return self.read_devices(pa, n);
+        }
+        Ok(self.m.read(self.cells.as_slice(), pa, n))
+    }
+
+    /// All pieces are translated before any byte is read.
+    #[tactic(auto, using(crate::proofs::Pieces::load_rules))]
+    fn load_at(&mut self, la: u64, n: usize, write: bool) -> Result<ArrayVec<u8, 16>, Stop>
+        requires open { IsOpen B.sight self.old }
+        requires size { is_size n ≡ true }
+        requires small { n ≤ 16 }
+        requires fits { la < 2 ^ 32 }
+        requires accesses { most n ≤ accesses_left self.old }
+        requires bytes { 10 ≤ bytes_left self.old }
+        ensures same { SameHandles self.old self.new }
+        ensures open { IsOpen B.sight self.new }
+        ensures accesses { accesses_left self.old ≤ accesses_left self.new + most n }
+        ensures bytes { bytes_left self.old ≤ bytes_left self.new + 10 }
+        ensures size { IfOk result (λ bytes. length bytes.items ≡ n) }
+        ensures part { Does (load_at write la n) (view B.sight I.hits self.old) (bytes_in result) (view B.sight I.hits self.new) }
+    {
+        let room = 4096 - (la % 4096) as usize;
+        if n <= room {
+            let pa = self.place(la, write)?;
+            return self.read_piece(pa, n);
+        }
+        let first = self.place(la, write)?;
+        let second = self.place((la + room as u64) % (1 << 32), write)?;
+        let mut bytes = self.read_piece(first, room)?;
+        let rest = self.read_piece(second, n - room)?;
+        append(&mut bytes, rest.as_slice());
+        Ok(bytes)
+    }
+
+    /// All pieces are translated, and nothing moves.
+    #[tactic(auto, using(crate::proofs::Pieces::probe_rules))]
+    fn probe_at(&mut self, la: u64, n: usize) -> Result<(), Stop>
+        requires open { IsOpen B.sight self.old }
+        requires small { n ≤ 16 }
+        requires fits { la < 2 ^ 32 }
+        requires bytes { 10 ≤ bytes_left self.old }
+        ensures same { SameHandles self.old self.new }
+        ensures open { IsOpen B.sight self.new }
+        ensures accesses { accesses_left self.old ≤ accesses_left self.new }
+        ensures bytes { bytes_left self.old ≤ bytes_left self.new + 10 }
+        ensures part { Does (probe_at la n) (view B.sight I.hits self.old) result (view B.sight I.hits self.new) }
+    {
+        let room = 4096 - (la % 4096) as usize;
+        self.place(la, true)?;
+        if n > room {
+            self.place((la + room as u64) % (1 << 32), true)?;
+        }
+        Ok(())
+    }
+
+    /// A piece is written, to the RAM or to devices.
+    fn write_piece(&mut self, pa: u64, bytes: &[u8]) -> Result<(), Stop>
+        requires open { IsOpen B.sight self.old }
+        requires small { length bytes.now ≤ 16 }
+        requires fits { pa < 2 ^ 52 }
+        requires accesses { length (chunks pa (length bytes.now)) ≤ accesses_left self.old }
+        requires bytes { length bytes.now ≤ bytes_left self.old }
+        ensures same { SameHandles self.old self.new }
+        ensures open { IsOpen B.sight self.new }
+        ensures accesses { accesses_left self.old ≤ accesses_left self.new + length (chunks pa (length bytes.now)) }
+        ensures bytes { bytes_left self.old ≤ bytes_left self.new + length bytes.now }
+        ensures part { Does (write_bytes pa bytes.now) (view B.sight I.hits self.old) result (view B.sight I.hits self.new) }
+    {
+        if !self.m.is_ram(pa, bytes.len() as u64) {
+            return self.write_devices(pa, bytes);
+        }
+        push_cells(&mut self.cells, pa, bytes);
+        Ok(())
+    }
+
+    /// All pieces are translated before any byte is written.
+    #[tactic(auto, using(crate::proofs::Stores::store_rules))]
+    fn store_at(&mut self, la: u64, bytes: &[u8]) -> Result<(), Stop>
+        requires open { IsOpen B.sight self.old }
+        requires size { is_size (length bytes.now) ≡ true }
+        requires small { length bytes.now ≤ 16 }
+        requires fits { la < 2 ^ 32 }
+        requires accesses { most (length bytes.now) ≤ accesses_left self.old }
+        requires bytes { 10 + length bytes.now ≤ bytes_left self.old }
+        ensures same { SameHandles self.old self.new }
+        ensures open { IsOpen B.sight self.new }
+        ensures accesses { accesses_left self.old ≤ accesses_left self.new + most (length bytes.now) }
+        ensures bytes { bytes_left self.old ≤ bytes_left self.new + (10 + length bytes.now) }
+        ensures part { Does (store_at la bytes.now) (view B.sight I.hits self.old) result (view B.sight I.hits self.new) }
+    {
+        let room = 4096 - (la % 4096) as usize;
+        if bytes.len() <= room {
+            let pa = self.place(la, true)?;
+            return self.write_piece(pa, bytes);
+        }
+        let first = self.place(la, true)?;
+        let second = self.place((la + room as u64) % (1 << 32), true)?;
+        self.write_piece(first, &bytes[..room])?;
+        self.write_piece(second, &bytes[room..])
+    }
+}
