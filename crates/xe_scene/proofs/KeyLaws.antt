@@ -5,7 +5,7 @@ use Rattle.std.specs.Ordering.{is_eq, nat_cmp}
 use Rattle.std.specs.BTreeMap.{BTreeMap, UpdatesBy, is_at}
 use Rattle.xe_base.specs.declared.access.Space.{Space}
 use Rattle.xe_base.specs.declared.access.Space.TheVariants.{Mem, Port, Msr, Cpuid}
-use Rattle.xe_core.specs.Tape.{Key, same_key}
+use Rattle.xe_ctx.specs.Tape.{Key, same_key}
 use Rattle.xe_scene.specs.declared.queue.QueueName.{QueueName}
 use Rattle.xe_scene.specs.contracts.queue.QueueNameOrd.TheImpl as derived_ord
 use Rattle.std.specs.Map.{lookup}

@@ -1,48 +1,45 @@
--- Regions one after another.
-use Rattle.std.proofs.Common.{◌≡◌, ℕ, ◌+◌, ◌<◌, ◌≤◌, ◌^◌, Bool, true, false, ◌&&◌, List, [], ◌∷◌, ◌++◌, length, sum_by, refl, arith, length-append}
-use Rattle.std.specs.Prelude.{nat_le}
-use Rattle.std.specs.List.{fold}
-use Rattle.std.proofs.lemmas.Bool.Decides.{nat_tests}
+-- Regions one after another, and commands one after another.
+use Rattle.std.proofs.Common.{◌≡◌, ℕ, ◌+◌, ◌<◌, ◌≤◌, ◌^◌, true, List, [], ◌∷◌, ◌++◌, length, refl, ◌∙◌, arith, length-append}
+use Rattle.std.proofs.lemmas.List.Elements.{All-push}
+use Rattle.std.specs.Prelude.{All, sum_by}
 use Rattle.std.proofs.lemmas.List.Sums.{sum_by-append}
-use Rattle.xe_core.specs.declared.region.Region.{Region}
-use Rattle.xe_core.specs.Regions.{AreRegions, are_regions_from, is_region_from}
-use Rattle.xe_scene.specs.Draft.{end_after, last_end}
+use Rattle.xe_mem.specs.declared.region.Region.{Region}
+use Rattle.xe_mem.specs.Layout.{IsLayout, fits_after, follow, end_behind, total}
+use Rattle.xe_mem.proofs.LayoutLaws.{follow-push, end-push}
+use Rattle.xe_scene.specs.declared.command.Command.{Command}
+use Rattle.xe_scene.specs.Formed.{IsFormed}
 
-and_both : (a b : Bool) → a ≡ true → b ≡ true → (a && b) ≡ true
-and_both true b h k = k
-and_both false b h k = h
+pub total_push : (rs : List Region) (r : Region) → total (rs ++ r ∷ []) ≡ total rs + r.len
+unfolding total
+total_push rs r = omega (arith, sum_by-append (λ (s : Region). s.len) rs (r ∷ []))
 
-and_left : (a b : Bool) → (a && b) ≡ true → a ≡ true
-and_left true b h = refl
-and_left false b h = h
+pub total_none : total [] ≡ 0
+unfolding total
+total_none = refl
 
-no : false ≡ true → ⊥
-no h = cc
+pub last_end_none : end_behind 0 [] ≡ 0
+unfolding end_behind
+last_end_none = refl
 
-and_right : (a b : Bool) → (a && b) ≡ true → b ≡ true
-and_right true b h = h
-and_right false b h = absurd (no h)
+none_follow : follow 0 [] ≡ true
+unfolding follow
+none_follow = refl
 
-from_push : (rs : List Region) (low : ℕ) (r : Region) → are_regions_from low rs ≡ true → is_region_from (fold end_after low rs) r ≡ true → are_regions_from low (rs ++ r ∷ []) ≡ true
-from_push [] low r h k = and_both (is_region_from low r) true k refl
-from_push (x ∷ rs) low r h k =
-    and_both (is_region_from low x) _ (and_left (is_region_from low x) _ h) (from_push rs (x.start + x.len) r (and_right (is_region_from low x) _ h) k)
-
-le_true : (a b : ℕ) → a ≤ b → nat_le a b ≡ true
-le_true a b h = grind (arith, nat_tests)
+-- no regions
+pub layout_none : IsLayout []
+layout_none = record { few = omega arith; follows = none_follow; small = omega (arith, total_none) }
 
 -- one region more
-pub are_regions_push : (rs : List Region) (r : Region) → AreRegions rs → is_region_from (last_end rs) r ≡ true → length rs < 16 → sum_by (λ (s : Region). s.len) rs + r.len ≤ 2 ^ 24 → AreRegions (rs ++ r ∷ [])
-are_regions_push rs r h k few small =
-    let front = and_left (are_regions_from 0 rs && nat_le (length rs) 16) (nat_le (sum_by (λ (s : Region). s.len) rs) (2 ^ 24)) h in
-    let pages = from_push rs 0 r (and_left (are_regions_from 0 rs) (nat_le (length rs) 16) front) k in
-    let count = le_true (length (rs ++ r ∷ [])) 16 (omega (arith, length-append rs (r ∷ []))) in
-    let sum = le_true (sum_by (λ (s : Region). s.len) (rs ++ r ∷ [])) (2 ^ 24) (omega (arith, sum_by-append (λ (s : Region). s.len) rs (r ∷ []), small)) in
-    and_both (are_regions_from 0 (rs ++ r ∷ []) && nat_le (length (rs ++ r ∷ [])) 16) _ (and_both (are_regions_from 0 (rs ++ r ∷ [])) _ pages count) sum
+pub layout_push : (rs : List Region) (r : Region) → IsLayout rs → fits_after (end_behind 0 rs) r ≡ true → length rs < 16 → total rs + r.len ≤ 2 ^ 24 → IsLayout (rs ++ r ∷ [])
+layout_push rs r h k few small = record {
+  few = omega (arith, length-append rs (r ∷ []));
+  follows = follow-push rs r 0 h.follows ∙ k;
+  small = omega (arith, total_push rs r, small);
+}
 
-end_push : (rs : List Region) (low : ℕ) (r : Region) → fold end_after low (rs ++ r ∷ []) ≡ r.start + r.len
-end_push [] low r = refl
-end_push (x ∷ rs) low r = end_push rs (x.start + x.len) r
+pub last_end_push : (rs : List Region) (r : Region) → end_behind 0 (rs ++ r ∷ []) ≡ r.start + r.len
+last_end_push rs r = end-push rs r 0
 
-pub last_end_push : (rs : List Region) (r : Region) → last_end (rs ++ r ∷ []) ≡ r.start + r.len
-last_end_push rs r = end_push rs 0 r
+-- one command more
+pub formed_push : (cs : List Command) (c : Command) → All IsFormed cs → IsFormed c → All IsFormed (cs ++ c ∷ [])
+formed_push cs c h k = All-push IsFormed cs c h k

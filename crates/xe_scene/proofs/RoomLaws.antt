@@ -3,7 +3,7 @@ use Rattle.std.proofs.Common.{◌≡◌, ℕ, ◌+◌, ◌-◌, ◌≤◌, Bool,
 use Rattle.std.proofs.lemmas.List.Sums.{sum_by-cons}
 use Rattle.arrayvec.specs.ArrayVec.{ArrayVec}
 use Rattle.xe_base.specs.declared.access.Space.{Space}
-use Rattle.xe_core.specs.Tape.{Key, same_key}
+use Rattle.xe_ctx.specs.Tape.{Key, same_key}
 use Rattle.xe_scene.specs.declared.command.Command.{Command}
 use Rattle.xe_scene.specs.declared.command.Command.TheVariants.{Dev}
 use Rattle.xe_scene.specs.declared.command.Dir.{Dir}

@@ -1,18 +1,20 @@
 -- What a reader keeps count of.
-use Rattle.std.specs.Prelude.{◌≡◌, ◌≤◌, length, sum_by, vec_len}
-use Rattle.xe_core.specs.Regions.{AreRegions}
+use Rattle.std.specs.Prelude.{◌≡◌, ◌≤◌, All, length, sum_by, vec_len}
+use Rattle.xe_mem.specs.Layout.{IsLayout, end_behind, total}
 use Rattle.xe_scene.specs.declared.reader.Reader.TheInside.{Inside}
-use Rattle.xe_scene.specs.Draft.{Draft, item_count, step_count, queues_of, last_end}
+use Rattle.xe_scene.specs.Draft.{Draft, item_count, step_count, queues_of}
+use Rattle.xe_scene.specs.Formed.{IsFormed}
 
 abbrev pub draft : Inside → Draft
 draft r = record { regions = r.regions.items; commands = r.commands.items }
 
 pub record IsCounted (r : Inside) : Type 0 where
-  pub regions : AreRegions r.regions.items
+  pub regions : IsLayout r.regions.items
   pub count : vec_len r.commands ≤ 4096
-  pub ram : r.ram ≡ sum_by (λ s. s.len) r.regions.items
+  pub formed : All IsFormed r.commands.items
+  pub ram : r.ram ≡ total r.regions.items
   pub ram_most : r.ram ≤ 0x100_0000
-  pub ram_end : r.ram_end ≡ last_end r.regions.items
+  pub ram_end : r.ram_end ≡ end_behind 0 r.regions.items
   pub items : r.items ≡ sum_by item_count r.commands.items
   pub items_most : r.items ≤ 4096
   pub steps : r.steps ≡ sum_by step_count r.commands.items

@@ -7,7 +7,10 @@ pub mod QueueInside
 pub mod Script
 pub mod Replies
 pub mod Rooms
+pub mod Names
 pub mod Words
+pub mod Formed
+pub mod CommandsInside
 pub mod Draft
 pub mod Scene
 pub mod First

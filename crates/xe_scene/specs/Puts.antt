@@ -1,7 +1,6 @@
 -- What the reader of a line answers.
 use Rattle.std.specs.Prelude.{◌≡◌, List, [], ◌∷◌, ◌++◌, Option, Some, None, Result, Ok, Err}
 use Rattle.xe_scene.specs.declared.reason.Reason.{Reason}
-use Rattle.xe_scene.specs.declared.reason.Reason.TheVariants.{NotBuilt}
 use Rattle.xe_scene.specs.declared.queue.QueueName.{QueueName}
 use Rattle.xe_scene.specs.declared.reader.LineFault.{LineFault}
 use Rattle.xe_scene.specs.declared.reader.LineFault.TheVariants.{NoMemory, Bad}
@@ -17,8 +16,3 @@ Puts (Err (Bad r)) said new = said ≡ Err r
 abbrev pub with_new : List QueueName → Option QueueName → List QueueName
 with_new qs None = qs
 with_new qs (Some q) = qs ++ q ∷ []
-
--- until the whole grammar is built, each reason is told as not built
-abbrev pub as_built_fault : LineFault → LineFault
-as_built_fault NoMemory = NoMemory
-as_built_fault (Bad r) = Bad NotBuilt

@@ -1,7 +1,7 @@
 -- The names of device queues.
 use Rattle.std.specs.Prelude.{ℕ, Bool, true, false}
 use Rattle.xe_base.specs.declared.access.Space.{Space}
-use Rattle.xe_core.specs.Tape.{Key}
+use Rattle.xe_ctx.specs.Tape.{Key}
 use Rattle.xe_scene.specs.declared.command.Dir.{Dir}
 use Rattle.xe_scene.specs.declared.command.Dir.TheVariants.{Read, Write}
 use Rattle.xe_scene.specs.declared.queue.QueueName.{QueueName}

@@ -1,16 +1,20 @@
 -- The room that a scene's queues need.
 use Rattle.std.specs.Prelude.{ℕ, if◌then◌else◌, List, length, sum_by}
-use Rattle.xe_core.specs.Tape.{Key, same_key}
+use Rattle.xe_ctx.specs.Tape.{Key, same_key}
 use Rattle.xe_scene.specs.declared.command.Command.{Command}
-use Rattle.xe_scene.specs.declared.command.Command.TheVariants.{Reg, Poke, Dev, Run}
+use Rattle.xe_scene.specs.declared.command.Command.TheVariants.{Reg, Seg, Table, Poke, Dev, Run, Show, Dump}
 use Rattle.xe_scene.specs.Queues.{key_of_queue}
 
 -- how many items a command feeds to a queue
 abbrev pub fed_by : Key → Command → ℕ
 fed_by k (Reg r v) = 0
+fed_by k (Seg r s b l a) = 0
+fed_by k (Table t b l) = 0
 fed_by k (Poke a b) = 0
 fed_by k (Dev s d a is) = if same_key k (key_of_queue s d a) then length is.items else 0
 fed_by k (Run n) = 0
+fed_by k Show = 0
+fed_by k (Dump a n) = 0
 
 -- how many items commands feed to a queue
 abbrev pub items_for : List Command → Key → ℕ

@@ -1,9 +1,9 @@
 -- What a text says, or its first bad line.
-use Rattle.std.specs.Prelude.{ℕ, ◌+◌, ◌-◌, ◌==◌, nat_lt, if◌then◌else◌, List, [], ◌∷◌, length, take, slice_index, Result, Ok, Err, codes, Bool}
+use Rattle.std.specs.Prelude.{ℕ, ◌+◌, ◌==◌, nat_lt, if◌then◌else◌, List, [], ◌∷◌, length, take, Result, Ok, Err, codes, Bool}
 use Rattle.std.specs.List.{slice_split, count_by}
 use Rattle.std.specs.Str.{bytes_eq}
 use Rattle.xe_scene.specs.declared.reason.Reason.{Reason}
-use Rattle.xe_scene.specs.declared.reason.Reason.TheVariants.{Header, TooLong, NotBuilt}
+use Rattle.xe_scene.specs.declared.reason.Reason.TheVariants.{Header, TooLong}
 use Rattle.xe_scene.specs.Reasons.{number_of}
 use Rattle.xe_scene.specs.Steps.{◌>>=◌}
 use Rattle.xe_scene.specs.Draft.{Draft, line_says}
@@ -23,17 +23,12 @@ is_newline b = b == 10
 abbrev pub text_most : ℕ
 text_most = 1048576
 
--- until the whole grammar is built, a line outside of what is built is refused as not built, whatever is wrong with it
-abbrev pub as_built : Result Draft Reason → Result Draft Reason
-as_built (Ok d) = Ok d
-as_built (Err reason) = Err NotBuilt
-
 abbrev pub header : Draft → List ℕ → Result Draft Reason
 header d line = if bytes_eq line (codes "x86emu 1") then Ok d else Err Header
 
 -- the draft after line n + 1, before which there are n lines
 unfoldable pub line_after : ℕ → Draft → List ℕ → Result Draft Reason
-line_after n d line = as_built (if n == 0 then header d line else line_says d line)
+line_after n d line = if n == 0 then header d line else line_says d line
 
 abbrev pub at_line : ℕ → Result Draft Reason → Result Draft Bad
 at_line n (Ok d) = Ok d
@@ -47,12 +42,9 @@ lines_say n d (line ∷ lines) = at_line (n + 1) (line_after n d line) >>= λ e.
 abbrev pub nothing : Draft
 nothing = record { regions = []; commands = [] }
 
--- each line ends with a newline, which the last one may lack
-abbrev pub without_last_newline : List ℕ → List ℕ
-without_last_newline bytes = if slice_index bytes (length bytes - 1) == 10 then take (length bytes - 1) bytes else bytes
-
+-- the lines between newlines; what follows the last newline is one of them, and does nothing where it is empty
 abbrev pub lines_of : List ℕ → List (List ℕ)
-lines_of bytes = slice_split is_newline (without_last_newline bytes)
+lines_of bytes = slice_split is_newline bytes
 
 -- what a text of at most so many bytes says, or its first bad line
 unfoldable pub scene_within : ℕ → List ℕ → Result Draft Bad

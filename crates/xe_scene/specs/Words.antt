@@ -1,20 +1,19 @@
 -- What the words of one line say, by themselves.
 use Rattle.std.specs.Prelude.{ℕ, ◌==◌, ◌||◌, nat_lt, Bool, if◌then◌else◌, List, [], ◌∷◌, length, Option, Some, None, Result, Ok, Err, codes}
 use Rattle.std.specs.Str.{bytes_eq}
+use Rattle.xe_base.specs.Access.{is_msr}
 use Rattle.xe_base.specs.declared.access.Space.{Space}
-use Rattle.xe_base.specs.declared.access.Space.TheVariants.{Port}
 use Rattle.xe_scene.specs.declared.reason.Reason.{Reason}
-use Rattle.xe_scene.specs.declared.reason.Reason.TheVariants.{UnknownCommand, WordCount, UnknownName, BadNumber, BadBytes, LateRam, TooMany}
-use Rattle.xe_scene.specs.declared.command.RegName.{RegName}
-use Rattle.xe_scene.specs.declared.command.RegName.TheVariants.{Rax, Rcx, Rdx, Rbx, Rsp, Rbp, Rsi, Rdi, R8, R9, R10, R11, R12, R13, R14, R15, Rip, Rflags, Cr0, Cr2, Cr3, Cr4, Cr8, Efer, Kgs, Cpl}
-use Rattle.xe_scene.specs.declared.command.Dir.{Dir}
-use Rattle.xe_scene.specs.declared.command.Dir.TheVariants.{Read}
+use Rattle.xe_scene.specs.declared.reason.Reason.TheVariants.{UnknownCommand, WordCount, UnknownName, BadNumber, BadBytes, LateRam, TooMany, NotBuilt}
 use Rattle.xe_scene.specs.declared.command.Item.{Item}
-use Rattle.xe_scene.specs.declared.command.Item.TheVariants.{Value}
-use Rattle.xe_scene.specs.declared.command.Command.TheVariants.{Reg, Poke, Dev, Run}
+use Rattle.xe_scene.specs.declared.command.Item.TheVariants.{Value, No}
+use Rattle.xe_scene.specs.declared.command.Command.TheVariants.{Reg, Seg, Table, Poke, Dev, Run, Show, Dump}
 use Rattle.xe_scene.specs.declared.words.Entry.{Entry}
 use Rattle.xe_scene.specs.declared.words.Entry.TheVariants.{Ram, Obey}
+use Rattle.xe_scene.specs.declared.names.CommandName.{CommandName}
+use Rattle.xe_scene.specs.declared.names.CommandName.TheVariants as commands
 use Rattle.xe_scene.specs.Steps.{◌>>=◌}
+use Rattle.xe_scene.specs.Names.{command_name, register_name, register_most, segment_name, table_name, space_of, direction_of}
 use Rattle.xe_scene.specs.Numbers.{hex_number, decimal_number, bytes_of}
 
 -- the value, or the reason why there is none
@@ -22,85 +21,91 @@ abbrev pub or_else : {A : Type 0} → Reason → Option A → Result A Reason
 or_else reason None = Err reason
 or_else reason (Some x) = Ok x
 
+-- a number that is at most the greatest value of its field
+unfoldable pub number_up_to : ℕ → List ℕ → Result ℕ Reason
+number_up_to most word = or_else BadNumber (hex_number most word)
+
 -- a number of 64 bits
 abbrev pub quad : List ℕ → Result ℕ Reason
-quad word = or_else BadNumber (hex_number (0xffff_ffff_ffff_ffff) word)
+quad word = number_up_to (0xffff_ffff_ffff_ffff) word
 
--- ram START LEN
-unfoldable pub region_of : Bool → List (List ℕ) → Result Entry Reason
-region_of late (start ∷ len ∷ []) = if late then Err LateRam else do
+unfoldable pub region_at : List ℕ → List ℕ → Result Entry Reason
+region_at start len = do
   s ← quad start
   l ← quad len
   Ok (Ram (record { start = s; len = l }))
+
+-- ram START LEN
+unfoldable pub region_of : Bool → List (List ℕ) → Result Entry Reason
+region_of late (start ∷ len ∷ []) = if late then Err LateRam else region_at start len
 region_of late words = Err WordCount
 
-unfoldable pub register_name : List ℕ → Result RegName Reason
-register_name word = if bytes_eq word (codes "rip") then Ok Rip else Err UnknownName
-
--- the greatest value of a register; for now instruction pointers are of 32 bits
-abbrev pub register_most : RegName → ℕ
-register_most Rax = 0xffff_ffff_ffff_ffff
-register_most Rcx = 0xffff_ffff_ffff_ffff
-register_most Rdx = 0xffff_ffff_ffff_ffff
-register_most Rbx = 0xffff_ffff_ffff_ffff
-register_most Rsp = 0xffff_ffff_ffff_ffff
-register_most Rbp = 0xffff_ffff_ffff_ffff
-register_most Rsi = 0xffff_ffff_ffff_ffff
-register_most Rdi = 0xffff_ffff_ffff_ffff
-register_most R8 = 0xffff_ffff_ffff_ffff
-register_most R9 = 0xffff_ffff_ffff_ffff
-register_most R10 = 0xffff_ffff_ffff_ffff
-register_most R11 = 0xffff_ffff_ffff_ffff
-register_most R12 = 0xffff_ffff_ffff_ffff
-register_most R13 = 0xffff_ffff_ffff_ffff
-register_most R14 = 0xffff_ffff_ffff_ffff
-register_most R15 = 0xffff_ffff_ffff_ffff
-register_most Rip = 0xffff_ffff
-register_most Rflags = 0xffff_ffff_ffff_ffff
-register_most Cr0 = 0xffff_ffff_ffff_ffff
-register_most Cr2 = 0xffff_ffff_ffff_ffff
-register_most Cr3 = 0xffff_ffff_ffff_ffff
-register_most Cr4 = 0xffff_ffff_ffff_ffff
-register_most Cr8 = 0xffff_ffff_ffff_ffff
-register_most Efer = 0xffff_ffff_ffff_ffff
-register_most Kgs = 0xffff_ffff_ffff_ffff
-register_most Cpl = 0xff
-
-unfoldable pub register_value : RegName → List ℕ → Result ℕ Reason
-register_value r word = or_else BadNumber (hex_number (register_most r) word)
+unfoldable pub register_with : List ℕ → List ℕ → Result Entry Reason
+register_with name value = do
+  r ← register_name name
+  v ← number_up_to (register_most r) value
+  Ok (Obey (Reg r v))
 
 -- reg NAME H
 unfoldable pub register_of : List (List ℕ) → Result Entry Reason
-register_of (name ∷ value ∷ []) = do
-  r ← register_name name
-  v ← register_value r value
-  Ok (Obey (Reg r v))
+register_of (name ∷ value ∷ []) = register_with name value
 register_of words = Err WordCount
 
--- poke PA BYTES
-unfoldable pub poke_of : List (List ℕ) → Result Entry Reason
-poke_of (address ∷ bytes ∷ []) = do
+unfoldable pub segment_with : List ℕ → List ℕ → List ℕ → List ℕ → List ℕ → Result Entry Reason
+segment_with name selector base limit attr = do
+  r ← segment_name name
+  s ← number_up_to 0xffff selector
+  b ← quad base
+  l ← number_up_to 0xffff_ffff limit
+  a ← number_up_to 0xffff attr
+  Ok (Obey (Seg r s b l a))
+
+-- seg NAME SEL BASE LIMIT ATTR
+unfoldable pub segment_of : List (List ℕ) → Result Entry Reason
+segment_of (name ∷ selector ∷ base ∷ limit ∷ attr ∷ []) = segment_with name selector base limit attr
+segment_of words = Err WordCount
+
+unfoldable pub table_with : List ℕ → List ℕ → List ℕ → Result Entry Reason
+table_with name base limit = do
+  t ← table_name name
+  b ← quad base
+  l ← number_up_to 0xffff limit
+  Ok (Obey (Table t b l))
+
+-- table NAME BASE LIMIT
+unfoldable pub table_of : List (List ℕ) → Result Entry Reason
+table_of (name ∷ base ∷ limit ∷ []) = table_with name base limit
+table_of words = Err WordCount
+
+unfoldable pub poke_at : List ℕ → List ℕ → Result Entry Reason
+poke_at address bytes = do
   a ← quad address
   b ← or_else BadBytes (bytes_of bytes)
   Ok (Obey (Poke a b))
+
+-- poke PA BYTES
+unfoldable pub poke_of : List (List ℕ) → Result Entry Reason
+poke_of (address ∷ bytes ∷ []) = poke_at address bytes
 poke_of words = Err WordCount
 
-unfoldable pub space_of : List ℕ → Result Space Reason
-space_of word = if bytes_eq word (codes "port") then Ok Port else Err UnknownName
+-- the items of a device that are known and not built
+abbrev pub is_unbuilt_item : List ℕ → Bool
+is_unbuilt_item word = bytes_eq word (codes "wait") || bytes_eq word (codes "fail")
 
-unfoldable pub direction_of : List ℕ → Result Dir Reason
-direction_of word = if bytes_eq word (codes "r") then Ok Read else Err UnknownName
+-- only model-specific registers have the item `no`
+unfoldable pub item_of : Space → List ℕ → Result Item Reason
+item_of space word =
+    if is_unbuilt_item word then Err NotBuilt
+    else if bytes_eq word (codes "no") then (if is_msr space then Ok No else Err UnknownName)
+    else (do
+      v ← quad word
+      Ok (Value v))
 
-unfoldable pub item_of : List ℕ → Result Item Reason
-item_of word = do
-  v ← quad word
-  Ok (Value v)
-
-unfoldable pub items_of : List (List ℕ) → Result (List Item) Reason
-items_of [] = Ok []
-items_of (word ∷ words) = do
-  i ← item_of word
-  is ← items_of words
+unfoldable pub items_of : Space → List (List ℕ) → Result (List Item) Reason
+items_of space [] = Ok []
+items_of space (word ∷ words) = do
+  i ← item_of space word
+  is ← items_of space words
   Ok (i ∷ is)
 
 -- dev SPACE DIR ADDR ITEMS, with 1 to 16 items
@@ -111,7 +116,7 @@ device_of (space ∷ direction ∷ address ∷ items) =
       s ← space_of space
       d ← direction_of direction
       a ← quad address
-      is ← items_of items
+      is ← items_of s items
       Ok (Obey (Dev s d a (record { items = is }))))
 device_of words = Err WordCount
 
@@ -125,16 +130,42 @@ unfoldable pub run_of : List (List ℕ) → Result Entry Reason
 run_of (count ∷ []) = steps_of (decimal_number count)
 run_of words = Err WordCount
 
-unfoldable pub named : Bool → List ℕ → List (List ℕ) → Result Entry Reason
-named late name words =
-    if bytes_eq name (codes "ram") then region_of late words
-    else if bytes_eq name (codes "reg") then register_of words
-    else if bytes_eq name (codes "poke") then poke_of words
-    else if bytes_eq name (codes "dev") then device_of words
-    else if bytes_eq name (codes "run") then run_of words
-    else Err UnknownCommand
+-- show
+unfoldable pub show_of : List (List ℕ) → Result Entry Reason
+show_of [] = Ok (Obey Show)
+show_of (word ∷ words) = Err WordCount
 
--- what a line says whose first word is the command; late tells that it is too late for RAM
+-- one byte at least
+abbrev pub some_length : ℕ → Result ℕ Reason
+some_length n = if n == 0 then Err BadNumber else Ok n
+
+unfoldable pub dump_at : List ℕ → List ℕ → Result Entry Reason
+dump_at address len = do
+  a ← quad address
+  n ← number_up_to 0x1000 len
+  l ← some_length n
+  Ok (Obey (Dump a l))
+
+-- dump PA LEN
+unfoldable pub dump_of : List (List ℕ) → Result Entry Reason
+dump_of (address ∷ len ∷ []) = dump_at address len
+dump_of words = Err WordCount
+
+-- what a command says with these words; late tells that it is too late for RAM
+abbrev pub said_by : Bool → CommandName → List (List ℕ) → Result Entry Reason
+said_by late commands.Ram words = region_of late words
+said_by late commands.Reg words = register_of words
+said_by late commands.Seg words = segment_of words
+said_by late commands.Table words = table_of words
+said_by late commands.Poke words = poke_of words
+said_by late commands.Dev words = device_of words
+said_by late commands.Run words = run_of words
+said_by late commands.Show words = show_of words
+said_by late commands.Dump words = dump_of words
+
+-- what a line says whose first word is the command
 unfoldable pub entry_of : Bool → List (List ℕ) → Result Entry Reason
 entry_of late [] = Err UnknownCommand
-entry_of late (name ∷ words) = named late name words
+entry_of late (name ∷ words) = do
+  c ← command_name name
+  said_by late c words

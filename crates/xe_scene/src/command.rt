@@ -1,11 +1,12 @@
 //! Scenes and their commands.
-ghost use Rattle.std.specs.Prelude.{◌≡◌, ◌<◌, ◌≤◌, length, slice_get, Some, vec_len};
+ghost use Rattle.std.specs.Prelude.{◌≡◌, ◌<◌, ◌≤◌, All, length, slice_get, Some, vec_len};
+ghost use Rattle.xe_scene.specs.Formed.{IsFormed};
 ghost use Rattle.xe_scene.specs.Queues.{is_write};
 
 use arrayvec::ArrayVec;
 use std::marker::Model;
 use xe_base::Space;
-use xe_core::Region;
+use xe_mem::Region;
 
 /// A register that a scene sets by its name.
 #[derive(Clone, Copy, Debug, Drop, PartialEq, Eq)]
@@ -38,6 +39,26 @@ pub enum RegName {
     Cpl,
 }
 
+/// A segment register that a scene sets by its name.
+#[derive(Clone, Copy, Debug, Drop, PartialEq, Eq)]
+pub enum SegReg {
+    Es,
+    Cs,
+    Ss,
+    Ds,
+    Fs,
+    Gs,
+    Ldtr,
+    Tr,
+}
+
+/// A table register that a scene sets by its name.
+#[derive(Clone, Copy, Debug, Drop, PartialEq, Eq)]
+pub enum DtName {
+    Gdtr,
+    Idtr,
+}
+
 /// Whether a device is read or written.
 #[derive(Clone, Copy, Debug, Default, Drop, PartialEq, Eq, PartialOrd, Ord)]
 pub enum Dir {
@@ -60,6 +81,8 @@ impl Dir {
 pub enum Item {
     /// Answers this value, truncated to the size of the access.
     Value(u64),
+    /// Answers that there is no such model-specific register.
+    No,
 }
 
 impl Default for Item {
@@ -68,17 +91,26 @@ impl Default for Item {
     }
 }
 
-/// One command of a scene, with the words of its line.
+/// One command of a scene, with the words of its line in their order.
 #[derive(Drop)]
 pub enum Command {
-    /// Sets a register.
+    /// Sets a register; `cpl` to at most FFh.
     Reg(RegName, u64),
-    /// Puts bytes into RAM, at a physical address.
+    /// Sets the selector (at most FFFFh), the base, the limit (at most FFFFFFFFh) and the attributes
+    /// (at most FFFFh) of a segment register.
+    Seg(SegReg, u64, u64, u64, u64),
+    /// Sets the base and the limit (at most FFFFh) of a table register.
+    Table(DtName, u64, u64),
+    /// Puts 1 to 64 bytes into RAM, at a physical address.
     Poke(u64, ArrayVec<u8, 64>),
-    /// Appends items to the queue of a space, a direction and an address.
+    /// Appends 1 to 16 items to the queue of a space, a direction and an address.
     Dev(Space, Dir, u64, ArrayVec<Item, 16>),
-    /// Runs up to so many steps.
+    /// Runs up to so many steps, 1 to 1,000,000.
     Run(u64),
+    /// Shows the registers.
+    Show,
+    /// Shows so many bytes of RAM, 1 to 1000h, from a physical address on.
+    Dump(u64, u64),
 }
 
 /// Commands in the order of their lines.
@@ -88,19 +120,21 @@ pub struct Commands {
 }
 
 impl Model for Commands {
-    ghost use Rattle.std.specs.Prelude.{List, ◌≤◌, vec_len};
+    ghost use Rattle.std.specs.Prelude.{List};
     ghost use Rattle.xe_scene.specs.declared.command.Command.{Command};
+    ghost use Rattle.xe_scene.specs.CommandsInside.{AreCommands};
 
     ghost Value = { List Command };
 
     ghost view = { λ c. c.list.items };
 
-    ghost invariant = { λ c. vec_len c.list ≤ 4096 };
+    ghost invariant = { AreCommands };
 }
 
 impl Commands {
     pub(crate) fn new(list: Vec<Command>) -> Commands
-        requires { vec_len list ≤ 4096 }
+        requires few { vec_len list ≤ 4096 }
+        requires formed { All IsFormed list.items }
         ensures { result ≡ list.items }
     {
         Commands { list }
@@ -114,10 +148,12 @@ impl Commands {
         self.list.len() as u32
     }
 
-    /// The command at a place, counted from 0.
+    /// The command at a place, counted from 0. Its words are in the range of their fields, and only
+    /// items for model-specific registers are `No`.
     pub fn get(&self, i: u32) -> &Command
         requires { i < length self.now }
-        ensures { slice_get self.now i ≡ Some result.now }
+        ensures command { slice_get self.now i ≡ Some result.now }
+        ensures formed { IsFormed result.now }
     {
         &self.list[i as usize]
     }

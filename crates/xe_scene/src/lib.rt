@@ -3,6 +3,7 @@
 
 mod command;
 mod laws;
+mod names;
 mod number;
 mod queue;
 mod reader;
@@ -11,7 +12,7 @@ mod reason;
 mod script_bus;
 mod words;
 
-pub use command::{Command, Commands, Dir, Item, RegName, Scene};
+pub use command::{Command, Commands, Dir, DtName, Item, RegName, Scene, SegReg};
 pub use laws::first_bad;
 pub use reading::{SceneFault, read_scene};
 pub use script_bus::ScriptBus;

@@ -22,7 +22,8 @@ fn hex_digit(c: u8) -> Option<u8>
 /// A number of 1 to 16 hex digits.
 #[tactic(auto, unfolding(crate::specs::Numbers::hex_number))]
 pub(crate) fn hex_number(most: u64, word: &[u8]) -> Option<u64>
-    ensures { result ≡ spec.hex_number most word.now }
+    ensures value { result ≡ spec.hex_number most word.now }
+    ensures most { IfSome result (λ n. n ≤ most) }
 {
     if word.is_empty() || word.len() > 16 {
         return None;
@@ -45,7 +46,8 @@ fn hex_value(word: &[u8]) -> Option<u64>
 /// 1 to 64 bytes in hex.
 #[tactic(auto, unfolding(crate::specs::Numbers::bytes_of))]
 pub(crate) fn bytes_of(word: &[u8]) -> Option<ArrayVec<u8, 64>>
-    ensures { result ≡ spec.bytes_of word.now }
+    ensures value { result ≡ spec.bytes_of word.now }
+    ensures some { IfSome result (λ v. 0 < length v.items) }
 {
     if word.is_empty() || word.len() > 128 || word.len() % 2 == 1 {
         return None;

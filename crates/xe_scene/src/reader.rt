@@ -1,9 +1,9 @@
 //! What the lines so far said, with the counts that their bounds need.
-ghost use Rattle.std.specs.Prelude.{◌≡◌, ◌≤◌, ◌||◌, [], length, map, nat_lt, IfOk, if◌then◌else◌};
+ghost use Rattle.std.specs.Prelude.{◌≡◌, ◌≤◌, [], length, map, IfOk, if◌then◌else◌};
 ghost use Rattle.std.specs.List.{list_any, slice_split};
-ghost use Rattle.xe_core.specs.Regions as regions;
-ghost use Rattle.xe_core.specs.Regions.{AreRegions};
+ghost use Rattle.xe_mem.specs.Layout.{fits_after, IsLayout};
 ghost use Rattle.xe_scene.specs.Draft as spec;
+ghost use Rattle.xe_scene.specs.Formed.{IsFormed, IsFormedEntry};
 ghost use Rattle.xe_scene.specs.Queues.{same_queue};
 ghost use Rattle.xe_scene.specs.Puts.{Puts, with_new};
 ghost use Rattle.xe_scene.specs.Faults.{draft_of};
@@ -16,7 +16,7 @@ use crate::words::{Entry, entry_of};
 use arrayvec::ArrayVec;
 use std::alloc::{AllocError, AllocFailed, Global};
 use std::marker::Model;
-use xe_core::Region;
+use xe_mem::Region;
 
 /// Why a line was not read.
 #[derive(Clone, Copy, Debug, Drop, PartialEq, Eq)]
@@ -70,15 +70,20 @@ impl Model for Reader {
     ghost invariant = { IsCounted };
 }
 
-/// Whether a region is of whole pages below 2^40, from this address on.
+/// The first address past those of RAM, which have 40 bits.
+const ADDRESS_END: u64 = 1 << 40;
+
+/// Whether a region is some whole pages below 2^40, from this address on.
+#[tactic(auto, using(std::proofs::lemmas::Bool::Decides::nat_tests), unfolding(xe_mem::specs::Layout::fits_after))]
 fn is_region_from(low: u64, r: &Region) -> bool
-    ensures { result ≡ regions.is_region_from low r.now }
+    ensures { result ≡ fits_after low r.now }
 {
     r.start % 4096 == 0
         && r.len % 4096 == 0
         && r.len > 0
-        && r.start.saturating_add(r.len) <= 1 << 40
-        && r.start >= low
+        && r.len <= ADDRESS_END
+        && r.start <= ADDRESS_END - r.len
+        && low <= r.start
 }
 
 fn item_count(command: &Command) -> usize
@@ -149,7 +154,7 @@ impl Reader {
         }
     }
 
-    #[tactic(auto, using(crate::proofs::RegionLaws::are_regions_push), unfolding(crate::specs::Draft::put, crate::specs::Draft::is_too_much, crate::specs::Draft::is_bad_region))]
+    #[tactic(auto, using(crate::proofs::RegionLaws::layout_push), unfolding(crate::specs::Draft::put, crate::specs::Draft::is_too_much, crate::specs::Draft::is_bad_region))]
     fn put_region(&mut self, region: Region) -> Result<(), LineFault>
         ensures { Puts result (spec.put self.old (Entry.Ram region)) self.new }
     {
@@ -165,8 +170,9 @@ impl Reader {
         Ok(())
     }
 
-    #[tactic(auto, unfolding(crate::specs::Draft::put, crate::specs::Draft::is_too_many))]
+    #[tactic(auto, using(crate::proofs::RegionLaws::formed_push), unfolding(crate::specs::Draft::put, crate::specs::Draft::is_too_many))]
     fn put_command(&mut self, command: Command) -> Result<(), LineFault>
+        requires { IsFormed command }
         ensures { Puts result (spec.put self.old (Entry.Obey command)) self.new }
     {
         let items = self.items + item_count(&command);
@@ -188,6 +194,7 @@ impl Reader {
     }
 
     fn put(&mut self, entry: Entry) -> Result<(), LineFault>
+        requires { IsFormedEntry entry }
         ensures { Puts result (spec.put self.old entry) self.new }
     {
         match entry {
@@ -200,7 +207,7 @@ impl Reader {
     fn is_late(&self) -> bool
         ensures { result ≡ spec.is_late self.now }
     {
-        !self.commands.is_empty() || !self.regions.is_empty()
+        !self.commands.is_empty()
     }
 
     #[tactic(auto, using(crate::proofs::WordLaws::any_mapped), unfolding(crate::specs::Draft::words_say))]
@@ -227,13 +234,16 @@ impl Reader {
         if line.len() > 200 {
             return Err(LineFault::Bad(Reason::LongLine));
         }
+        if does_nothing(line) {
+            return Ok(());
+        }
         let words = words_of(alloc, line)?;
         self.words(&words)
     }
 
     pub fn into_scene(self) -> Scene
         ensures draft { draft_of result ≡ self }
-        ensures regions { AreRegions result.regions.items }
+        ensures regions { IsLayout result.regions.items }
     {
         let Reader {
             regions,
@@ -261,6 +271,13 @@ fn has_bad_byte(line: &[u8]) -> bool
     ensures { result ≡ list_any spec.is_bad_byte line.now }
 {
     line.iter().any(|b| *b < 32 || *b > 126)
+}
+
+/// Whether a line is empty, or a comment.
+fn does_nothing(line: &[u8]) -> bool
+    ensures { result ≡ spec.does_nothing line.now }
+{
+    matches!(line, [] | [b'#', ..])
 }
 
 fn words_of(alloc: Global, line: &[u8]) -> Result<Vec<&[u8]>, AllocError>

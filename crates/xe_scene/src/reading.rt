@@ -1,9 +1,9 @@
 //! Texts, line by line.
 ghost use Rattle.std.specs.Prelude.{◌≡◌, ◌+◌, ◌≤◌, ◌<◌, ◌^◌, length, take, IfOk};
 ghost use Rattle.std.specs.List.{count_by, slice_split};
-ghost use Rattle.xe_core.specs.Regions.{AreRegions};
+ghost use Rattle.xe_mem.specs.Layout.{IsLayout};
 ghost use Rattle.xe_scene.specs.Scene as spec;
-ghost use Rattle.xe_scene.specs.Puts.{Puts, as_built_fault};
+ghost use Rattle.xe_scene.specs.Puts.{Puts};
 ghost use Rattle.xe_scene.specs.Faults.{Reads, located};
 
 use crate::command::Scene;
@@ -21,20 +21,11 @@ pub enum SceneFault {
     /// Memory was refused.
     #[error("no memory for the scene")]
     NoMemory,
-    /// The first bad line, counted from 1, and the number of its reason: 14 where the text is
-    /// longer than 1,048,576 bytes, and for now 15 for every other line that isn't accepted.
+    /// The first bad line, counted from 1, and the number of its reason, 1 to 15. Reason 14 is that
+    /// the text is longer than 1,048,576 bytes; it is looked at first, and then the line is the one
+    /// in which the text gets too long.
     #[error("line {number} is refused for reason {reason}")]
     Line { number: u32, reason: u8 },
-}
-
-/// Until the whole grammar is built, each bad line is told as not built.
-fn as_built(fault: LineFault) -> LineFault
-    ensures { result ≡ as_built_fault fault }
-{
-    match fault {
-        LineFault::NoMemory => LineFault::NoMemory,
-        LineFault::Bad(_) => LineFault::Bad(Reason::NotBuilt),
-    }
 }
 
 /// Reads the line that follows so many lines.
@@ -46,12 +37,9 @@ fn line_after(alloc: Global, before: u32, reader: &mut Reader, line: &[u8]) -> R
         if line == b"x86emu 1".as_slice() {
             return Ok(());
         }
-        return Err(LineFault::Bad(Reason::NotBuilt));
+        return Err(LineFault::Bad(Reason::Header));
     }
-    match reader.line(alloc, line) {
-        Ok(()) => Ok(()),
-        Err(fault) => Err(as_built(fault)),
-    }
+    reader.line(alloc, line)
 }
 
 /// A fault of a line.
@@ -67,21 +55,11 @@ fn at_line(fault: LineFault, number: u32) -> SceneFault
     }
 }
 
-/// The text without the newline at its end.
-fn without_last_newline(bytes: &[u8]) -> &[u8]
-    ensures { result.now ≡ spec.without_last_newline bytes.now }
-{
-    match bytes {
-        [text @ .., b'\n'] => text,
-        _ => bytes,
-    }
-}
-
 /// Reads all lines.
 fn read_lines(alloc: Global, bytes: &[u8]) -> Result<Scene, SceneFault>
     requires { length bytes.now ≤ TEXT_MOST }
     ensures lines { Reads result (spec.lines_say 0 spec.nothing (slice_split spec.is_newline bytes.now)) }
-    ensures regions { IfOk result (λ s. AreRegions s.regions.items) }
+    ensures regions { IfOk result (λ s. IsLayout s.regions.items) }
 {
     let mut reader = Reader::new(alloc);
     let mut before = 0u32;
@@ -111,13 +89,14 @@ fn newlines(bytes: &[u8]) -> usize
     bytes.iter().filter(|b| **b == b'\n').count()
 }
 
-/// Reads a text: its scene, or its first bad line, or NoMemory where memory was refused.
+/// Reads a text: its scene, or its first bad line, or NoMemory where memory was refused. The regions
+/// of a scene are such that guest memory of them is only refused for want of memory.
 ///
 /// The grammar and its reasons are this project's own (docs/SCENARIO.md).
 #[tactic(auto, unfolding(crate::specs::Scene::scene_within))]
 pub fn read_scene(alloc: Global, bytes: &[u8]) -> Result<Scene, SceneFault>
     ensures text { Reads result (spec.scene bytes.now) }
-    ensures regions { IfOk result (λ s. AreRegions s.regions.items) }
+    ensures regions { IfOk result (λ s. IsLayout s.regions.items) }
 {
     if bytes.len() > TEXT_MOST {
         return Err(SceneFault::Line {
@@ -125,5 +104,5 @@ pub fn read_scene(alloc: Global, bytes: &[u8]) -> Result<Scene, SceneFault>
             reason: Reason::TooLong.number(),
         });
     }
-    read_lines(alloc, without_last_newline(bytes))
+    read_lines(alloc, bytes)
 }

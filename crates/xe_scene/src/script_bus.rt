@@ -1,10 +1,11 @@
 //! The bus of a scenario: devices that follow its script.
-ghost use Rattle.std.specs.Prelude.{◌≡◌, ◌-◌, ◌*◌, ◌%◌, ◌^◌, ◌≤◌, if◌then◌else◌, map, length, slice_get, IfOk, OnOk, IsTrue, IsSome, Some};
-ghost use Rattle.xe_base.specs.Access.{IsWellFormed, answers_to};
-ghost use Rattle.xe_core.specs.Tape.{Key, same_key, fed, begun, empty_tape};
+ghost use Rattle.std.specs.Prelude.{◌≡◌, ◌-◌, ◌*◌, ◌%◌, ◌^◌, ◌≤◌, if◌then◌else◌, map, length, slice_get, All, IfOk, OnOk, IsTrue, IsSome, ◌∷◌, []};
+ghost use Rattle.xe_base.specs.Access.{IsWellFormed, answers_to, is_msr};
+ghost use Rattle.xe_ctx.specs.Tape.{Key, same_key, first_reply, fed, begun, empty_tape};
+ghost use Rattle.xe_scene.specs.Formed.{IsItemFor};
 ghost use Rattle.xe_scene.specs.Queued.{widened, filled, without_first, roomy_queue};
 ghost use Rattle.xe_scene.specs.Queues.{script_key, key_of_name};
-ghost use Rattle.xe_scene.specs.Script.{taped, found_at, queue_at, tape_of, spare_of, log_room};
+ghost use Rattle.xe_scene.specs.Script.{taped, taped_in, found_at, queue_at, tape_of, sight_of, spare_of, log_room};
 ghost use Rattle.xe_scene.specs.Replies.{reply_to};
 ghost use Rattle.xe_scene.specs.Rooms.{items_for, fed_by};
 
@@ -14,7 +15,7 @@ use arrayvec::ArrayVec;
 use std::alloc::{AllocError, Global};
 use std::collections::BTreeMap;
 use xe_base::{Access, Answer, Made, NoMemory, Space};
-use xe_core::Bus;
+use xe_ctx::Bus;
 
 type Queues = BTreeMap<QueueName, Queue>;
 
@@ -51,6 +52,21 @@ fn all_ones(a: &Access) -> u64
     }
 }
 
+/// What an item answers. Only model-specific registers are fed `No`.
+fn answer(a: &Access, item: Item) -> Answer
+    requires { IsWellFormed a.now }
+    ensures value { result ≡ first_reply a.now (taped_in a.now.space item ∷ []) }
+    ensures fits { IsTrue (answers_to a.now result) }
+{
+    match item {
+        Item::Value(value) => Answer::Val(truncated(a, value)),
+        Item::No => match a.space {
+            Space::Msr => Answer::No,
+            _ => Answer::Val(truncated(a, 0)),
+        },
+    }
+}
+
 /// What the first item of a queue answers; an empty queue reads as all ones, and takes what is
 /// written.
 fn reply(a: &Access, item: Option<Item>) -> Answer
@@ -59,7 +75,7 @@ fn reply(a: &Access, item: Option<Item>) -> Answer
     ensures fits { IsTrue (answers_to a.now result) }
 {
     match item {
-        Some(Item::Value(value)) => Answer::Val(truncated(a, value)),
+        Some(item) => answer(a, item),
         None if a.write => Answer::Val(0),
         None => Answer::Val(all_ones(a)),
     }
@@ -160,7 +176,8 @@ impl ScriptBus {
     /// Appends items to the queue of a space, a direction and an address, into the room that the
     /// scene gave it. That room is for all items of the scene: it isn't given back as they are taken.
     pub fn feed(&mut self, space: Space, write: bool, address: u64, items: &[Item])
-        requires { length items.now ≤ spare_of self.old (script_key space write address) }
+        requires room { length items.now ≤ spare_of self.old (script_key space write address) }
+        requires formed { All (IsItemFor space) items.now }
         ensures tape { tape_of self.new ≡ fed (tape_of self.old) (script_key space write address) (map taped items.now) }
         ensures room { log_room self.new ≡ log_room self.old }
         ensures spare { (k : Key) → spare_of self.new k ≡ (if same_key k (script_key space write address) then spare_of self.old k - length items.now else spare_of self.old k) }
@@ -191,11 +208,7 @@ impl ScriptBus {
 }
 
 impl Bus for ScriptBus {
-    ghost tape = { λ b. Some (tape_of b) };
-
-    ghost room = { log_room };
-
-    ghost spare = { spare_of };
+    ghost sight = { sight_of };
 
     fn access(&mut self, a: Access) -> Answer {
         let name = QueueName {

@@ -4,10 +4,10 @@ use super::*;
 use arrayvec::ArrayVec;
 use std::test::Fail;
 use xe_base::{Access, Answer, Space};
-use xe_core::Bus;
+use xe_ctx::Bus;
 
 const PORT_READ: &[u8] =
-    b"x86emu 1\nram 0 10000\npoke 7c00 b84100e460f4\nreg rip 7c00\ndev port r 60 5a\nrun 10";
+    b"x86emu 1\n# reads a port\nram 0 10000\n\npoke 7c00 b84100e460f4\nreg rip 7c00\ndev port r 60 5a\nrun 10";
 
 /// The line and the reason for which a text is refused, or 0 and 0.
 fn refusal(rt: &HostRuntime, text: &[u8]) -> (u32, u8) {
@@ -27,23 +27,63 @@ fn reads_a_worked_text(rt: HostRuntime) -> Result<(), Fail> {
     Ok(())
 }
 
-#[test]
-fn refuses_the_first_bad_line(rt: HostRuntime) {
-    assert_eq!(rt; refusal(&rt, b""), (1, 15));
-    assert_eq!(rt; refusal(&rt, b"x86emu 1\n"), (0, 0));
-    assert_eq!(rt; refusal(&rt, b"x86emu 1\n\n"), (2, 15));
-    assert_eq!(rt;
-        refusal(&rt, b"x86emu 1\nram 0 1000\nram 1000 1000\nrun 0"),
-        (3, 15)
-    );
-    assert_eq!(rt; refusal(&rt, b"x86emu 1\nrun 1000000\nrun 1"), (3, 15));
+/// The text without its last newline.
+fn without_newline(text: &[u8]) -> &[u8] {
+    match text {
+        [front @ .., b'\n'] => front,
+        _ => text,
+    }
 }
 
-ghost use Rattle.std.specs.Prelude.{◌<◌};
+/// Each reason, by a text that is refused for it.
+const REFUSED: [(&[u8], u32, u8); 15] = [
+    (b"x86emu 2\n", 1, 1),
+    (b"x86emu 1\nshow\t\n", 2, 2),
+    (
+        b"x86emu 1\n#########################################################################################################################################################################################################\n",
+        2,
+        3,
+    ),
+    (b"x86emu 1\n# a  comment\nrun  1\n", 3, 4),
+    (b"x86emu 1\n\nstop\n", 3, 5),
+    (b"x86emu 1\nshow all\n", 2, 6),
+    (b"x86emu 1\nreg ip x\n", 2, 7),
+    (b"x86emu 1\ndev port r 60 no\n", 2, 7),
+    (b"x86emu 1\nseg ds 10000 0 ffff 93\n", 2, 8),
+    (b"x86emu 1\nram 0 1000\npoke 0 1\n", 3, 9),
+    (b"x86emu 1\nram 0 1000\nram 800 1000\n", 3, 10),
+    (b"x86emu 1\nram 0 1001000\n", 2, 11),
+    (b"x86emu 1\nshow\nram x 0\n", 3, 12),
+    (b"x86emu 1\nrun 1000000\nrun 1\n", 3, 13),
+    (b"x86emu 1\ndev port r 60 wait no x\n", 2, 15),
+];
+
+#[test]
+fn refuses_for_each_reason(rt: HostRuntime) {
+    for (text, number, reason) in REFUSED {
+        assert_eq!(rt; refusal(&rt, text), (number, reason), "reason {reason}");
+        assert_eq!(rt;
+            refusal(&rt, without_newline(text)),
+            (number, reason),
+            "no last newline, reason {reason}"
+        );
+    }
+}
+
+#[test]
+fn refuses_a_long_text(rt: HostRuntime) -> Result<(), Fail> {
+    let text = vec![in rt.alloc(); b'\n'; 1_048_577]?;
+    assert_eq!(rt; refusal(&rt, &text), (1_048_577, 14));
+    assert_eq!(rt; refusal(&rt, &text[1..]), (1, 1));
+    assert_eq!(rt; refusal(&rt, b""), (1, 1));
+    Ok(())
+}
+
+ghost use Rattle.xe_ctx.specs.Bus.{HasRoom};
 
 /// Reads one byte of port 60h.
 fn read_port<B: Bus>(bus: &mut B) -> Answer
-    requires { 0 < B.room bus.old }
+    requires { HasRoom (B.sight bus.old) 1 }
 {
     bus.access(Access {
         space: Space::Port,

@@ -1,14 +1,20 @@
 //! What the words of one line say.
-ghost use Rattle.std.specs.Prelude.{◌≡◌, ◌≤◌, length, map};
+ghost use Rattle.std.specs.Prelude.{◌≡◌, ◌≤◌, All, IfOk, length, map};
+ghost use Rattle.xe_base.specs.Access.{is_msr};
 ghost use Rattle.xe_scene.specs.Words as spec;
+ghost use Rattle.xe_scene.specs.Formed.{IsItemFor, IsFormedEntry};
 ghost use Rattle.xe_scene.specs.Gives.{Gives};
 
-use crate::command::{Command, Dir, Item, RegName};
+use crate::command::{Command, Item};
+use crate::names::{
+    CommandName, command_name, direction_of, register_most, register_name, segment_name, space_of,
+    table_name,
+};
 use crate::number::{bytes_of, decimal_number, hex_number};
 use crate::reason::Reason;
 use arrayvec::ArrayVec;
 use xe_base::Space;
-use xe_core::Region;
+use xe_mem::Region;
 
 /// What a line adds to the scene.
 #[derive(Drop)]
@@ -17,129 +23,196 @@ pub enum Entry {
     Obey(Command),
 }
 
+/// A number that is at most the greatest value of its field.
+#[tactic(auto, unfolding(crate::specs::Words::number_up_to))]
+fn number_up_to(most: u64, word: &[u8]) -> Result<u64, Reason>
+    ensures value { result ≡ spec.number_up_to most word.now }
+    ensures most { IfOk result (λ n. n ≤ most) }
+{
+    hex_number(most, word).ok_or(Reason::BadNumber)
+}
+
 /// A number of 64 bits.
 fn quad(word: &[u8]) -> Result<u64, Reason>
     ensures { result ≡ spec.quad word.now }
 {
-    hex_number(u64::MAX, word).ok_or(Reason::BadNumber)
+    number_up_to(u64::MAX, word)
 }
 
+#[tactic(auto, unfolding(crate::specs::Words::region_at))]
+fn region_at(start: &[u8], len: &[u8]) -> Result<Entry, Reason>
+    ensures value { result ≡ spec.region_at start.now len.now }
+    ensures formed { IfOk result IsFormedEntry }
+{
+    let start = quad(start)?;
+    let len = quad(len)?;
+    Ok(Entry::Ram(Region { start, len }))
+}
+
+/// `ram START LEN`
 #[tactic(auto, unfolding(crate::specs::Words::region_of))]
 fn region_of(late: bool, words: &[&[u8]]) -> Result<Entry, Reason>
-    ensures { result ≡ spec.region_of late (map (λ w. w.now) words.now) }
+    ensures value { result ≡ spec.region_of late (map (λ w. w.now) words.now) }
+    ensures formed { IfOk result IsFormedEntry }
 {
     match words {
         [start, len] => {
             if late {
                 return Err(Reason::LateRam);
             }
-            let start = quad(start)?;
-            let len = quad(len)?;
-            Ok(Entry::Ram(Region { start, len }))
+            region_at(start, len)
         }
         _ => Err(Reason::WordCount),
     }
 }
 
-#[tactic(auto, unfolding(crate::specs::Words::register_name))]
-fn register_name(word: &[u8]) -> Result<RegName, Reason>
-    ensures { result ≡ spec.register_name word.now }
+#[tactic(auto, unfolding(crate::specs::Words::register_with))]
+fn register_with(name: &[u8], value: &[u8]) -> Result<Entry, Reason>
+    ensures value { result ≡ spec.register_with name.now value.now }
+    ensures formed { IfOk result IsFormedEntry }
 {
-    match word {
-        b"rip" => Ok(RegName::Rip),
-        _ => Err(Reason::UnknownName),
-    }
+    let name = register_name(name)?;
+    let value = number_up_to(register_most(name), value)?;
+    Ok(Entry::Obey(Command::Reg(name, value)))
 }
 
-/// The greatest value of a register; for now instruction pointers are of 32 bits.
-fn register_most(name: RegName) -> u64
-    ensures { result ≡ spec.register_most name }
-{
-    match name {
-        RegName::Rip => 0xffff_ffff,
-        RegName::Cpl => 0xff,
-        _ => u64::MAX,
-    }
-}
-
-/// A number that fits the register.
-#[tactic(auto, unfolding(crate::specs::Words::register_value))]
-fn register_value(name: RegName, word: &[u8]) -> Result<u64, Reason>
-    ensures { result ≡ spec.register_value name word.now }
-{
-    hex_number(register_most(name), word).ok_or(Reason::BadNumber)
-}
-
+/// `reg NAME H`
 #[tactic(auto, unfolding(crate::specs::Words::register_of))]
 fn register_of(words: &[&[u8]]) -> Result<Entry, Reason>
-    ensures { result ≡ spec.register_of (map (λ w. w.now) words.now) }
+    ensures value { result ≡ spec.register_of (map (λ w. w.now) words.now) }
+    ensures formed { IfOk result IsFormedEntry }
 {
     match words {
-        [name, value] => {
-            let name = register_name(name)?;
-            let value = register_value(name, value)?;
-            Ok(Entry::Obey(Command::Reg(name, value)))
-        }
+        [name, value] => register_with(name, value),
         _ => Err(Reason::WordCount),
     }
 }
 
+#[tactic(auto, unfolding(crate::specs::Words::segment_with))]
+fn segment_with(
+    name: &[u8],
+    selector: &[u8],
+    base: &[u8],
+    limit: &[u8],
+    attr: &[u8],
+) -> Result<Entry, Reason>
+    ensures value { result ≡ spec.segment_with name.now selector.now base.now limit.now attr.now }
+    ensures formed { IfOk result IsFormedEntry }
+{
+    let name = segment_name(name)?;
+    let selector = number_up_to(0xffff, selector)?;
+    let base = quad(base)?;
+    let limit = number_up_to(0xffff_ffff, limit)?;
+    let attr = number_up_to(0xffff, attr)?;
+    Ok(Entry::Obey(Command::Seg(name, selector, base, limit, attr)))
+}
+
+/// `seg NAME SEL BASE LIMIT ATTR`
+#[tactic(auto, unfolding(crate::specs::Words::segment_of))]
+fn segment_of(words: &[&[u8]]) -> Result<Entry, Reason>
+    ensures value { result ≡ spec.segment_of (map (λ w. w.now) words.now) }
+    ensures formed { IfOk result IsFormedEntry }
+{
+    match words {
+        [name, selector, base, limit, attr] => segment_with(name, selector, base, limit, attr),
+        _ => Err(Reason::WordCount),
+    }
+}
+
+#[tactic(auto, unfolding(crate::specs::Words::table_with))]
+fn table_with(name: &[u8], base: &[u8], limit: &[u8]) -> Result<Entry, Reason>
+    ensures value { result ≡ spec.table_with name.now base.now limit.now }
+    ensures formed { IfOk result IsFormedEntry }
+{
+    let name = table_name(name)?;
+    let base = quad(base)?;
+    let limit = number_up_to(0xffff, limit)?;
+    Ok(Entry::Obey(Command::Table(name, base, limit)))
+}
+
+/// `table NAME BASE LIMIT`
+#[tactic(auto, unfolding(crate::specs::Words::table_of))]
+fn table_of(words: &[&[u8]]) -> Result<Entry, Reason>
+    ensures value { result ≡ spec.table_of (map (λ w. w.now) words.now) }
+    ensures formed { IfOk result IsFormedEntry }
+{
+    match words {
+        [name, base, limit] => table_with(name, base, limit),
+        _ => Err(Reason::WordCount),
+    }
+}
+
+#[tactic(auto, unfolding(crate::specs::Words::poke_at))]
+fn poke_at(address: &[u8], bytes: &[u8]) -> Result<Entry, Reason>
+    ensures value { result ≡ spec.poke_at address.now bytes.now }
+    ensures formed { IfOk result IsFormedEntry }
+{
+    let address = quad(address)?;
+    let bytes = bytes_of(bytes).ok_or(Reason::BadBytes)?;
+    Ok(Entry::Obey(Command::Poke(address, bytes)))
+}
+
+/// `poke PA BYTES`
 #[tactic(auto, unfolding(crate::specs::Words::poke_of))]
 fn poke_of(words: &[&[u8]]) -> Result<Entry, Reason>
-    ensures { result ≡ spec.poke_of (map (λ w. w.now) words.now) }
+    ensures value { result ≡ spec.poke_of (map (λ w. w.now) words.now) }
+    ensures formed { IfOk result IsFormedEntry }
 {
     match words {
-        [address, bytes] => {
-            let address = quad(address)?;
-            let bytes = bytes_of(bytes).ok_or(Reason::BadBytes)?;
-            Ok(Entry::Obey(Command::Poke(address, bytes)))
-        }
+        [address, bytes] => poke_at(address, bytes),
         _ => Err(Reason::WordCount),
     }
 }
 
-#[tactic(auto, unfolding(crate::specs::Words::space_of))]
-fn space_of(word: &[u8]) -> Result<Space, Reason>
-    ensures { result ≡ spec.space_of word.now }
+/// Whether an item of this name is known, but not built.
+fn is_unbuilt_item(word: &[u8]) -> bool
+    ensures { result ≡ spec.is_unbuilt_item word.now }
 {
-    match word {
-        b"port" => Ok(Space::Port),
-        _ => Err(Reason::UnknownName),
-    }
+    word == b"wait".as_slice() || word == b"fail".as_slice()
 }
 
-#[tactic(auto, unfolding(crate::specs::Words::direction_of))]
-fn direction_of(word: &[u8]) -> Result<Dir, Reason>
-    ensures { result ≡ spec.direction_of word.now }
+fn is_msr(space: Space) -> bool
+    ensures { result ≡ is_msr space }
 {
-    match word {
-        b"r" => Ok(Dir::Read),
-        _ => Err(Reason::UnknownName),
-    }
+    matches!(space, Space::Msr)
 }
 
 #[tactic(auto, unfolding(crate::specs::Words::item_of))]
-fn item_of(word: &[u8]) -> Result<Item, Reason>
-    ensures { result ≡ spec.item_of word.now }
+fn item_of(space: Space, word: &[u8]) -> Result<Item, Reason>
+    ensures value { result ≡ spec.item_of space word.now }
+    ensures formed { IfOk result (IsItemFor space) }
 {
+    if is_unbuilt_item(word) {
+        return Err(Reason::NotBuilt);
+    }
+    if word == b"no".as_slice() {
+        return if is_msr(space) {
+            Ok(Item::No)
+        } else {
+            Err(Reason::UnknownName)
+        };
+    }
     let value = quad(word)?;
     Ok(Item::Value(value))
 }
 
-fn items_of(words: &[&[u8]]) -> Result<ArrayVec<Item, 16>, Reason>
+fn items_of(space: Space, words: &[&[u8]]) -> Result<ArrayVec<Item, 16>, Reason>
     requires { length words.now ≤ 16 }
-    ensures { Gives (λ v. v.items) result (spec.items_of (map (λ w. w.now) words.now)) }
+    ensures value { Gives (λ v. v.items) result (spec.items_of space (map (λ w. w.now) words.now)) }
+    ensures count { IfOk result (λ v. length v.items ≡ length words.now) }
+    ensures formed { IfOk result (λ v. All (IsItemFor space) v.items) }
 {
     let mut items = ArrayVec::new();
     for word in words {
-        items.push(item_of(word)?);
+        items.push(item_of(space, word)?);
     }
     Ok(items)
 }
 
 #[tactic(auto, unfolding(crate::specs::Words::device_of))]
 fn device_of(words: &[&[u8]]) -> Result<Entry, Reason>
-    ensures { result ≡ spec.device_of (map (λ w. w.now) words.now) }
+    ensures value { result ≡ spec.device_of (map (λ w. w.now) words.now) }
+    ensures formed { IfOk result IsFormedEntry }
 {
     match words {
         [space, direction, address, items @ ..] => {
@@ -149,7 +222,7 @@ fn device_of(words: &[&[u8]]) -> Result<Entry, Reason>
             let space = space_of(space)?;
             let direction = direction_of(direction)?;
             let address = quad(address)?;
-            let items = items_of(items)?;
+            let items = items_of(space, items)?;
             Ok(Entry::Obey(Command::Dev(space, direction, address, items)))
         }
         _ => Err(Reason::WordCount),
@@ -158,7 +231,8 @@ fn device_of(words: &[&[u8]]) -> Result<Entry, Reason>
 
 #[tactic(auto, unfolding(crate::specs::Words::run_of))]
 fn run_of(words: &[&[u8]]) -> Result<Entry, Reason>
-    ensures { result ≡ spec.run_of (map (λ w. w.now) words.now) }
+    ensures value { result ≡ spec.run_of (map (λ w. w.now) words.now) }
+    ensures formed { IfOk result IsFormedEntry }
 {
     match words {
         [count] => match decimal_number(count) {
@@ -170,27 +244,79 @@ fn run_of(words: &[&[u8]]) -> Result<Entry, Reason>
     }
 }
 
-#[tactic(auto, unfolding(crate::specs::Words::named))]
-fn named(late: bool, name: &[u8], words: &[&[u8]]) -> Result<Entry, Reason>
-    ensures { result ≡ spec.named late name.now (map (λ w. w.now) words.now) }
+#[tactic(auto, unfolding(crate::specs::Words::show_of))]
+fn show_of(words: &[&[u8]]) -> Result<Entry, Reason>
+    ensures value { result ≡ spec.show_of (map (λ w. w.now) words.now) }
+    ensures formed { IfOk result IsFormedEntry }
+{
+    match words {
+        [] => Ok(Entry::Obey(Command::Show)),
+        _ => Err(Reason::WordCount),
+    }
+}
+
+/// A length, of one byte at least.
+fn some_length(len: u64) -> Result<u64, Reason>
+    ensures { result ≡ spec.some_length len }
+{
+    if len == 0 {
+        Err(Reason::BadNumber)
+    } else {
+        Ok(len)
+    }
+}
+
+#[tactic(auto, unfolding(crate::specs::Words::dump_at))]
+fn dump_at(address: &[u8], len: &[u8]) -> Result<Entry, Reason>
+    ensures value { result ≡ spec.dump_at address.now len.now }
+    ensures formed { IfOk result IsFormedEntry }
+{
+    let address = quad(address)?;
+    let len = some_length(number_up_to(0x1000, len)?)?;
+    Ok(Entry::Obey(Command::Dump(address, len)))
+}
+
+/// `dump PA LEN`
+#[tactic(auto, unfolding(crate::specs::Words::dump_of))]
+fn dump_of(words: &[&[u8]]) -> Result<Entry, Reason>
+    ensures value { result ≡ spec.dump_of (map (λ w. w.now) words.now) }
+    ensures formed { IfOk result IsFormedEntry }
+{
+    match words {
+        [address, len] => dump_at(address, len),
+        _ => Err(Reason::WordCount),
+    }
+}
+
+/// What a command says with these words; late tells that it is too late for RAM.
+fn said_by(late: bool, name: CommandName, words: &[&[u8]]) -> Result<Entry, Reason>
+    ensures value { result ≡ spec.said_by late name (map (λ w. w.now) words.now) }
+    ensures formed { IfOk result IsFormedEntry }
 {
     match name {
-        b"ram" => region_of(late, words),
-        b"reg" => register_of(words),
-        b"poke" => poke_of(words),
-        b"dev" => device_of(words),
-        b"run" => run_of(words),
-        _ => Err(Reason::UnknownCommand),
+        CommandName::Ram => region_of(late, words),
+        CommandName::Reg => register_of(words),
+        CommandName::Seg => segment_of(words),
+        CommandName::Table => table_of(words),
+        CommandName::Poke => poke_of(words),
+        CommandName::Dev => device_of(words),
+        CommandName::Run => run_of(words),
+        CommandName::Show => show_of(words),
+        CommandName::Dump => dump_of(words),
     }
 }
 
 /// What a line of these words says; late tells that it is too late for RAM.
 #[tactic(auto, unfolding(crate::specs::Words::entry_of))]
 pub fn entry_of(late: bool, words: &[&[u8]]) -> Result<Entry, Reason>
-    ensures { result ≡ spec.entry_of late (map (λ w. w.now) words.now) }
+    ensures value { result ≡ spec.entry_of late (map (λ w. w.now) words.now) }
+    ensures formed { IfOk result IsFormedEntry }
 {
     match words {
         [] => Err(Reason::UnknownCommand),
-        [name, words @ ..] => named(late, name, words),
+        [name, words @ ..] => {
+            let name = command_name(name)?;
+            said_by(late, name, words)
+        }
     }
 }

@@ -15,7 +15,7 @@ pub loop-i-preserved : goal.loop-i-preserved
 loop-i-preserved c =
     let within : c.loop-i.i < length c.args.commands.now = omega (arith, c.len-i-end.ensures.count) in
     record {
-      roomy = λ k. c.in_ok-make_room.ensures k ∙ more_room c.args.commands.now c.loop-i.i c.get.result.now k (queue_at c.loop-i.queues k) within c.get.ensures (c.loop-i.invariant.roomy k);
+      roomy = λ k. c.in_ok-make_room.ensures k ∙ more_room c.args.commands.now c.loop-i.i c.get.result.now k (queue_at c.loop-i.queues k) within c.get.ensures.command (c.loop-i.invariant.roomy k);
     }
 
 pub returns : goal.returns

@@ -1,5 +1,5 @@
 use Rattle.std.proofs.Common.{◌≡◌, take}
-use Rattle.xe_core.specs.Tape.{Key}
+use Rattle.xe_ctx.specs.Tape.{Key}
 use Rattle.xe_scene.specs.Queued.{roomy_queue}
 use Rattle.xe_scene.specs.Script.{queue_at}
 use Rattle.xe_scene.specs.Rooms.{items_for}

@@ -1,6 +1,6 @@
 use Rattle.std.proofs.Common.{ap, ◌∙◌, List, []}
 use Rattle.xe_base.specs.declared.access.Made.{Made}
-use Rattle.xe_core.specs.Tape.{Tape, Item, Key}
+use Rattle.xe_ctx.specs.Tape.{Tape, Item, Key}
 use Rattle.xe_scene.specs.Rooms.{items_for}
 use Rattle.xe_scene.proofs.TapeLaws.{empty_queues}
 use Rattle.xe_scene.proofs.script_bus.ScriptBus.for_scene.Goals as goal
