@@ -8,14 +8,13 @@ ghost use Rattle.xe_ctx.specs.Operand.{IsOf, IsOperand, is_some, has_rex, eight,
 ghost use Rattle.xe_ctx.specs.View.{view, cpu_of, SameHandles, IsOpen, accesses_left, bytes_left};
 ghost use Rattle.xe_modrm.specs.Valid.{IsModRm};
 
+use crate::bus::Bus;
+use crate::ctx::Ctx;
+use crate::stop::{Finish, Stop};
 use xe_base::{Cpu, SegName};
 use xe_icpt::Intercepts;
 use xe_modrm::{ModRm, effective_offset, effective_segment};
 use xe_opmap::Insn;
-
-use crate::bus::Bus;
-use crate::ctx::Ctx;
-use crate::stop::{Finish, Stop};
 
 /// Where an operand lies: in a general register, or at an offset of a segment.
 #[derive(Clone, Copy, Drop, PartialEq, Eq, Debug)]
@@ -112,7 +111,12 @@ pub fn write_register(insn: &Insn, cpu: &Cpu, size: u8, register: u8, value: u64
 
 /// Reads an operand.
 #[tactic(auto, using(crate::proofs::Trees::row_rules), unfolding(crate::specs::Operand::read_operand))]
-pub fn read_operand<B: Bus, I: Intercepts>(insn: &Insn, ctx: &mut Ctx<B, I>, operand: Operand, size: u8) -> Result<u64, Stop>
+pub fn read_operand<B: Bus, I: Intercepts>(
+    insn: &Insn,
+    ctx: &mut Ctx<B, I>,
+    operand: Operand,
+    size: u8,
+) -> Result<u64, Stop>
     requires open { IsOpen B.sight ctx.old }
     requires size { IsTrue (is_size size) }
     requires register { IsOperand operand }
@@ -135,7 +139,12 @@ pub fn read_operand<B: Bus, I: Intercepts>(insn: &Insn, ctx: &mut Ctx<B, I>, ope
 
 /// Reads an operand that is written afterwards: memory has to be writable.
 #[tactic(auto, using(crate::proofs::Trees::row_rules), unfolding(crate::specs::Operand::read_for_write))]
-pub fn read_for_write<B: Bus, I: Intercepts>(insn: &Insn, ctx: &mut Ctx<B, I>, operand: Operand, size: u8) -> Result<u64, Stop>
+pub fn read_for_write<B: Bus, I: Intercepts>(
+    insn: &Insn,
+    ctx: &mut Ctx<B, I>,
+    operand: Operand,
+    size: u8,
+) -> Result<u64, Stop>
     requires open { IsOpen B.sight ctx.old }
     requires size { IsTrue (is_size size) }
     requires register { IsOperand operand }
@@ -173,7 +182,14 @@ fn cut(value: u64, size: u8) -> u128
 /// Writes the low bytes of a number to an operand, and answers the registers afterwards: those that
 /// were handed in, but for a register operand.
 #[tactic(auto, using(crate::proofs::Trees::row_rules), unfolding(crate::specs::Operand::write_operand))]
-pub fn write_operand<B: Bus, I: Intercepts>(insn: &Insn, ctx: &mut Ctx<B, I>, cpu: Cpu, operand: Operand, size: u8, value: u64) -> Result<Cpu, Stop>
+pub fn write_operand<B: Bus, I: Intercepts>(
+    insn: &Insn,
+    ctx: &mut Ctx<B, I>,
+    cpu: Cpu,
+    operand: Operand,
+    size: u8,
+    value: u64,
+) -> Result<Cpu, Stop>
     requires open { IsOpen B.sight ctx.old }
     requires size { IsTrue (is_size size) }
     requires register { IsOperand operand }

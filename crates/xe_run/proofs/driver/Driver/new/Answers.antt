@@ -1,8 +1,0 @@
-use Rattle.std.proofs.Common.{◌≡◌, sym, subst}
-use Rattle.xe_base.specs.State.{Valid}
-use Rattle.xe_base.specs.declared.cpu.Cpu.{Cpu}
-use Rattle.xe_run.proofs.DriveLaws.{reset-valid}
-use Rattle.xe_run.proofs.driver.Driver.new.Goals as goal
-
-pub create-requires-clause-valid : goal.create-requires-clause-valid
-create-requires-clause-valid c = rw c.reset-draft.ensures reset-valid
