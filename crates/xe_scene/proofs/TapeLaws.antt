@@ -16,7 +16,6 @@ use Rattle.xe_scene.specs.declared.command.Item.{Item}
 use Rattle.xe_scene.specs.declared.command.Item.TheVariants.{Value, No}
 use Rattle.xe_scene.specs.declared.queue.QueueName.{QueueName}
 use Rattle.xe_scene.specs.Queued.{Queued, filled, widened, without_first, roomy_queue}
-use Rattle.xe_base.specs.Access.{is_msr}
 use Rattle.xe_base.specs.declared.access.Space.{Space}
 use Rattle.xe_base.specs.declared.access.Space.TheVariants.{Mem, Port, Msr, Cpuid}
 use Rattle.xe_scene.specs.Formed.{IsItemFor}

@@ -1,5 +1,5 @@
 -- The ranges of a command's words.
-use Rattle.std.specs.Prelude.{ℕ, ◌≤◌, ◌<◌, All, IsTrue, length}
+use Rattle.std.specs.Prelude.{◌≤◌, ◌<◌, All, IsTrue, length}
 use Rattle.xe_base.specs.Access.{is_msr}
 use Rattle.xe_base.specs.declared.access.Space.{Space}
 use Rattle.xe_scene.specs.declared.command.Command.{Command}
