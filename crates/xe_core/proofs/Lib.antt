@@ -1,0 +1,5 @@
+pub mod FetchLaws
+pub mod Valid
+pub mod RowLaws
+pub mod CallLaws
+pub mod TestLaws

@@ -1,0 +1,12 @@
+//! One step of a machine: fetch, decode, the instructions that are built, and what a call reports.
+#![tactic(auto)]
+
+pub mod call;
+mod fetch;
+pub mod laws;
+mod rows;
+
+pub use call::emulate;
+
+#[cfg(test)]
+mod tests;
