@@ -1,0 +1,58 @@
+use Rattle.std.specs.Prelude.{ℕ, ◌*◌, ◌/◌, ◌%◌, ◌==◌, nat_lt, ◌&&◌, if◌then◌else◌}
+use Rattle.xe_base.specs.declared.cpu.Cpu.{Cpu}
+use Rattle.xe_opmap.specs.declared.insn.Insn.{Insn}
+use Rattle.xe_flags.specs.Arithmetic.{alu_word, alu_flags}
+use Rattle.xe_flags.specs.declared.arithmetic.AluOp.{AluOp}
+use Rattle.xe_flags.specs.declared.arithmetic.AluOp.TheVariants.{And, Cmp}
+use Rattle.xe_ctx.specs.Operand.{size_by_opcode, operand_of, reg_of, read_operand, read_for_write, write_operand, ends}
+use Rattle.xe_ctx.specs.Tree.{Tree, ◌>>=◌}
+use Rattle.xe_ctx.specs.declared.operand.Operand.{Operand}
+use Rattle.xe_ctx.specs.declared.operand.Operand.TheVariants.{Register}
+use Rattle.xe_ctx.specs.declared.stop.Finish.{Finish}
+use Rattle.xe_arith.specs.Sized.{low, with_flags}
+use Rattle.xe_arith.specs.Source.{read_source}
+use Rattle.xe_arith.specs.declared.source.Source.{Source}
+use Rattle.xe_arith.specs.declared.source.Source.TheVariants.{Number, Place}
+
+-- Operations on two operands (SDM volume 2, "ADD", "OR", "ADC", "SBB", "AND", "SUB", "XOR", "CMP" and "TEST"). The eight
+-- share their forms: of each eight opcodes below 40, the first two are E with G, the next two G with E, then the
+-- accumulator with an immediate; 80 to 83 are E with an immediate.
+
+-- the operand that is changed or compared
+abbrev pub alu_target : Insn → Cpu → Operand
+alu_target insn cpu = if nat_lt insn.opcode 0x40 && insn.opcode / 2 % 4 == 1 then Register (reg_of insn) else operand_of insn cpu
+
+-- the other one
+abbrev pub alu_source : Insn → Cpu → Source
+alu_source insn cpu =
+    if nat_lt insn.opcode 0x40
+    then (if insn.opcode / 2 % 4 == 0 then Place (Register (reg_of insn)) else (if insn.opcode / 2 % 4 == 1 then Place (operand_of insn cpu) else Number insn.imm))
+    else Number insn.imm
+
+-- ADD OR ADC SBB AND SUB XOR
+abbrev pub alu_row : AluOp → Insn → Cpu → Tree Finish
+alu_row op insn cpu = do
+  let n = size_by_opcode insn
+  a ← read_for_write insn cpu (alu_target insn cpu) n
+  b ← read_source insn cpu (alu_source insn cpu) n
+  after ← write_operand insn (with_flags cpu (alu_flags (8 * n) op (low n a) (low n b) cpu.rflags)) (alu_target insn cpu) n (alu_word (8 * n) op (low n a) (low n b) cpu.rflags)
+  ends insn after
+
+-- CMP: nothing is written but the flags
+abbrev pub cmp_row : Insn → Cpu → Tree Finish
+cmp_row insn cpu = do
+  let n = size_by_opcode insn
+  a ← read_operand insn cpu (alu_target insn cpu) n
+  b ← read_source insn cpu (alu_source insn cpu) n
+  ends insn (with_flags cpu (alu_flags (8 * n) Cmp (low n a) (low n b) cpu.rflags))
+
+-- TEST: 84 85: E with G. A8 A9: the accumulator with an immediate. F6 F7: E with an immediate
+abbrev pub test_source : Insn → Source
+test_source insn = if nat_lt insn.opcode 0xA8 then Place (Register (reg_of insn)) else Number insn.imm
+
+abbrev pub test_row : Insn → Cpu → Tree Finish
+test_row insn cpu = do
+  let n = size_by_opcode insn
+  a ← read_operand insn cpu (operand_of insn cpu) n
+  b ← read_source insn cpu (test_source insn) n
+  ends insn (with_flags cpu (alu_flags (8 * n) And (low n a) (low n b) cpu.rflags))

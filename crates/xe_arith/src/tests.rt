@@ -1,0 +1,80 @@
+//! Worked examples: a few instructions from their bytes.
+
+ghost use Rattle.std.specs.Prelude.{◌≤◌, length, None};
+
+use crate::{exec, is_row, rows_keep_states_valid};
+use std::alloc::Global;
+use std::process::Abort;
+use std::test::Fail;
+use xe_base::{Access, Answer, Cpu};
+use xe_ctx::{Bus, Ctx, Flow, Machine};
+use xe_icpt::NoHits;
+use xe_mem::{GuestMem, Region};
+use xe_opmap::{Decoded, decode};
+
+/// No device answers anything but 0.
+#[derive(Drop)]
+struct Quiet;
+
+impl Bus for Quiet {
+    ghost use Rattle.std.specs.Prelude.{None};
+
+    ghost sight = { λ _. record { tape = None; room = 0; spare = λ _. 0 } };
+
+    fn access(&mut self, _: Access) -> Answer {
+        Answer::Val(0)
+    }
+}
+
+/// A machine with 64 KiB at address 0, where each byte of RAM is 0, and these registers.
+fn machine(alloc: Global, cpu: Cpu) -> Option<Machine> {
+    let region = Region {
+        start: 0,
+        len: 1 << 16,
+    };
+    let mem = GuestMem::create(alloc, &[region]).ok()?;
+    Machine::new(mem, cpu).ok()
+}
+
+/// The registers after an instruction of this crate's rows that finishes.
+fn after(alloc: Global, cpu: Cpu, bytes: &[u8]) -> Option<Cpu>
+    requires { length bytes.now ≤ 15 }
+{
+    let mut m = machine(alloc, cpu)?;
+    let Decoded::Insn(insn) = decode(m.cpu().code_size(), bytes) else {
+        return None;
+    };
+    if !is_row(insn.row) {
+        return None;
+    }
+    let mut bus = Quiet;
+    let mut ctx = Ctx::begin(&mut m, &NoHits, &mut bus);
+    match exec(&insn, &mut ctx) {
+        Flow::Finish { cpu, .. } => Some(cpu),
+        Flow::Stopped(_) => None,
+    }
+}
+
+#[test]
+fn runs_instructions(rt: HostRuntime) {
+    rows_keep_states_valid();
+    let mut cpu = Cpu::reset();
+    cpu.gpr[0] = 0x1234;
+    cpu.gpr[3] = 0xFFFF_0001;
+    // ADD AX, BX: a register of 16 bits is written, and the upper half stays.
+    let sum = after(rt.alloc(), cpu, &[0x01, 0xD8]).expect(&rt, "ADD");
+    assert!(rt; sum.gpr[0] == 0x1235);
+    assert!(rt; sum.rip == 2);
+    // NEG EBX.
+    let negated = after(rt.alloc(), cpu, &[0x66, 0xF7, 0xDB]).expect(&rt, "NEG");
+    assert!(rt; negated.gpr[3] == 0xFFFF);
+    assert!(rt; negated.rflags == 0x17);
+    // MOV AL, AH.
+    let moved = after(rt.alloc(), cpu, &[0x88, 0xE0]).expect(&rt, "MOV");
+    assert!(rt; moved.gpr[0] == 0x1212);
+    // DIV BL, of AX by 1: the quotient has no byte.
+    assert!(rt; after(rt.alloc(), cpu, &[0xF6, 0xF3]).is_none());
+    // BSWAP EAX.
+    let swapped = after(rt.alloc(), cpu, &[0x66, 0x0F, 0xC8]).expect(&rt, "BSWAP");
+    assert!(rt; swapped.gpr[0] == 0x3412_0000);
+}
