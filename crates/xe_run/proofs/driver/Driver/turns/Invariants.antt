@@ -1,0 +1,14 @@
+use Rattle.std.proofs.Common.{◌≡◌, ◌-◌, ◌≤◌}
+use Rattle.xe_run.proofs.ToldLaws.{Progress}
+use Rattle.xe_run.specs.Text.{text}
+use Rattle.xe_run.specs.Drive.{turns}
+use Rattle.xe_run.specs.Driver.{world, SameRoom}
+use Rattle.xe_run.proofs.driver.Driver.turns.Given as goal
+
+abbrev pub invariant-loop-step : goal.invariant-loop-step
+invariant-loop-step g l = record {
+  progress : Progress (g.K.Sink.written l.fn.out) (text (turns l.steps (world l.fn.self)).events) (g.K.Sink.written l.out) (text (turns (l.steps - l.step) (world l.self)).events);
+  after : (turns (l.steps - l.step) (world l.self)).after ≡ (turns l.steps (world l.fn.self)).after;
+  room : SameRoom l.fn.self l.self;
+  count : g.K.Sink.faults l.fn.out ≤ g.K.Sink.faults l.out;
+}

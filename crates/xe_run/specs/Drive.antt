@@ -1,0 +1,256 @@
+-- The events of a scene: its commands one after another, over a machine, the draft of its registers, and the script of its
+-- devices. Nothing else is kept between the steps. This project's choice.
+use Rattle.std.specs.Prelude.{ℕ, zero, suc, ◌+◌, ◌*◌, ◌/◌, ◌%◌, ◌^◌, ◌==◌, not, slice_set, List, [], ◌∷◌, ◌++◌, length, map, take, drop, Bool, false, if◌then◌else◌, Option, Some, None}
+use Rattle.std.specs.List.{range_with_len}
+use Rattle.xe_base.specs.Ram.{bytes_of, put_bytes}
+use Rattle.xe_base.specs.Reset.{reset_state}
+use Rattle.xe_base.specs.State.{broken}
+use Rattle.xe_base.specs.declared.access.Made.{Made}
+use Rattle.xe_base.specs.declared.cpu.Cpu.{Cpu}
+use Rattle.xe_base.specs.declared.segment.Seg.{Seg}
+use Rattle.xe_base.specs.declared.segment.Table.{Table}
+use Rattle.xe_mem.specs.Layout.{zeroed}
+use Rattle.xe_mem.specs.declared.region.Region.{Region}
+use Rattle.xe_icpt.specs.declared.exit.Exit.{Exit}
+use Rattle.xe_icpt.specs.declared.point.Point.{Point}
+use Rattle.xe_opmap.specs.declared.row.Row.{Row}
+use Rattle.xe_ctx.specs.State.{State}
+use Rattle.xe_ctx.specs.Machine.{first_hole}
+use Rattle.xe_ctx.specs.Tape.{Tape, empty_tape, begun}
+use Rattle.xe_ctx.specs.Step.{Stepped, Ends, Wants, Ended}
+use Rattle.xe_ctx.specs.declared.report.Outcome.{Outcome}
+use Rattle.xe_ctx.specs.declared.report.Outcome.TheVariants as ends
+use Rattle.xe_core.specs.Emulate.{one_call}
+use Rattle.xe_scene.specs.Script.{with_device}
+use Rattle.xe_scene.specs.declared.command.Command.{Command}
+use Rattle.xe_scene.specs.declared.command.Command.TheVariants.{Reg, Seg as SetSegment, Table as SetTable, Poke, Dev, Run, Show, Dump}
+use Rattle.xe_scene.specs.declared.command.RegName.{RegName}
+use Rattle.xe_scene.specs.declared.command.RegName.TheVariants.{Rax, Rcx, Rdx, Rbx, Rsp, Rbp, Rsi, Rdi, R8, R9, R10, R11, R12, R13, R14, R15, Rip, Rflags, Cr0, Cr2, Cr3, Cr4, Cr8, Efer, Kgs, Cpl}
+use Rattle.xe_scene.specs.declared.command.SegReg.{SegReg}
+use Rattle.xe_scene.specs.declared.command.SegReg.TheVariants.{Es, Cs, Ss, Ds, Fs, Gs, Ldtr, Tr}
+use Rattle.xe_scene.specs.declared.command.DtName.{DtName}
+use Rattle.xe_scene.specs.declared.command.DtName.TheVariants.{Gdtr, Idtr}
+use Rattle.xe_run.specs.declared.event.Event.{Event}
+use Rattle.xe_run.specs.declared.event.Event.TheVariants as events
+
+-- what a run goes through: the machine, the draft of its registers, and the script
+pub record World : Type 0 where
+  pub machine : State
+  pub draft : Cpu
+  pub tape : Tape
+
+-- what something shows, and the world after it
+pub record Did : Type 0 where
+  pub events : List Event
+  pub after : World
+
+-- what shows nothing
+abbrev pub silent : World → Did
+silent w = record { events = []; after = w }
+
+-- ---- a turn, which is one step for now
+
+-- a device access of a step; no reply of "not yet" comes before it for now
+abbrev pub io_event : Made → Event
+io_event made = events.Io made 0
+
+-- how a turn ended: the last finished step with the count of steps and the registers before and after them, or what ended the last one
+abbrev pub end_event : Cpu → Cpu → Option Row → ℕ → Option Row → Outcome → Event
+end_event before after finished count row (ends.Done more retire) = events.Step finished count before after retire
+end_event before after finished count row (ends.Fault fault) = events.Fault row fault
+end_event before after finished count row (ends.Intercept exit) = events.Exit row exit
+end_event before after finished count row (ends.Event kind vector next) = events.Interrupt row kind vector next
+end_event before after finished count row (ends.Handoff handoff) = events.Handoff row handoff
+end_event before after finished count row ends.Unhandled = events.Unhandled
+end_event before after finished count row (ends.Unbuilt unbuilt) = events.Unbuilt unbuilt
+
+-- the accesses of the step, and then how it ended
+abbrev pub turn_events : Cpu → Ended → List Event
+turn_events before e = map io_event e.made ++ end_event before e.state.cpu e.row 1 e.row e.outcome ∷ []
+
+-- the processor halts: bit 2 of what retirement brings with it, which HLT alone sets
+abbrev pub is_halt : ℕ → Bool
+is_halt retire = retire / 4 % 2 == 1
+
+-- a run goes on after a step that finished, unless that was HLT
+abbrev pub goes_on_after : Outcome → Bool
+goes_on_after (ends.Done more retire) = not (is_halt retire)
+goes_on_after (ends.Fault fault) = false
+goes_on_after (ends.Intercept exit) = false
+goes_on_after (ends.Event kind vector next) = false
+goes_on_after (ends.Handoff handoff) = false
+goes_on_after ends.Unhandled = false
+goes_on_after (ends.Unbuilt unbuilt) = false
+
+-- what a turn shows, whether the run goes on, and the world after it
+pub record Turn : Type 0 where
+  pub events : List Event
+  pub goes_on : Bool
+  pub after : World
+
+abbrev pub script_left : Option Tape → Tape → Tape
+script_left None t = t
+script_left (Some u) t = u
+
+-- a script answers each access, so that a turn over one always ends
+abbrev pub turn_of : World → Stepped → Turn
+turn_of w (Ends e) = record {
+  events = turn_events w.machine.cpu e;
+  goes_on = goes_on_after e.outcome;
+  after = record w { machine = e.state; tape = script_left e.rest.tape w.tape };
+}
+turn_of w (Wants a made) = record { events = []; goes_on = false; after = w }
+
+-- nothing is intercepted
+abbrev pub no_exits : Point → Option Exit
+no_exits = λ _. None
+
+-- one turn, over the script with an empty log
+unfoldable pub turn : World → Turn
+turn w = turn_of w (one_call w.machine no_exits (begun w.tape))
+
+-- a turn, and what follows it where the run goes on
+abbrev pub and_then : Turn → Did → Did
+and_then t rest = if t.goes_on then record { events = t.events ++ rest.events; after = rest.after } else record { events = t.events; after = t.after }
+
+-- turns until so many steps finished, or the run ends before
+unfoldable pub turns : ℕ → World → Did
+turns zero w = silent w
+turns (suc n) w = and_then (turn w) (turns n (turn w).after)
+
+-- ---- the commands
+
+-- the draft becomes the machine's state again
+abbrev pub redrafted : World → World
+redrafted w = record w { draft = w.machine.cpu }
+
+-- the machine takes the draft over
+abbrev pub installed : World → World
+installed w = record w { machine = record w.machine { cpu = w.draft } }
+
+-- what is done once the draft is installed; one that breaks this rule of a valid state is refused instead, and nothing else is done
+abbrev pub with_draft : Option ℕ → World → Did → Did
+with_draft (Some rule) w did = record { events = events.BadState rule ∷ []; after = redrafted w }
+with_draft None w did = did
+
+-- a run installs the draft first, and the draft is the machine's state after it
+unfoldable pub run_command : ℕ → World → Did
+run_command n w = with_draft (broken w.draft) w (let did = turns n (installed w) in record did { after = redrafted did.after })
+
+-- all registers, line by line
+unfoldable pub shown : Cpu → List Event
+shown cpu =
+    events.General cpu.gpr
+    ∷ events.Control cpu
+    ∷ events.Segment Es cpu.es
+    ∷ events.Segment Cs cpu.cs
+    ∷ events.Segment Ss cpu.ss
+    ∷ events.Segment Ds cpu.ds
+    ∷ events.Segment Fs cpu.fs
+    ∷ events.Segment Gs cpu.gs
+    ∷ events.Segment Ldtr cpu.ldtr
+    ∷ events.Segment Tr cpu.tr
+    ∷ events.Table Gdtr cpu.gdtr
+    ∷ events.Table Idtr cpu.idtr
+    ∷ []
+
+-- the registers are shown once the draft is installed
+unfoldable pub show_command : World → Did
+show_command w = with_draft (broken w.draft) w (record { events = shown w.draft; after = installed w })
+
+-- line i of memory that is shown: the bytes from 16 * i on, at most 16; an address has 64 bits
+abbrev pub memory_line : ℕ → List ℕ → ℕ → Event
+memory_line pa bytes i = events.Memory ((pa + 16 * i) % 2 ^ 64) (record { items = take 16 (drop (16 * i) bytes) })
+
+-- bytes of memory, 16 a line, and the rest
+unfoldable pub memory_shown : ℕ → List ℕ → List Event
+memory_shown pa bytes = map (memory_line pa bytes) (range_with_len 0 ((length bytes + 15) / 16))
+
+-- bytes that aren't all in RAM are not shown, but the first address that isn't RAM
+abbrev pub dumped : Option ℕ → ℕ → ℕ → World → List Event
+dumped (Some hole) pa len w = events.NotRam hole ∷ []
+dumped None pa len w = memory_shown pa (bytes_of w.machine.ram pa len)
+
+unfoldable pub dump_command : ℕ → ℕ → World → Did
+dump_command pa len w = record { events = dumped (first_hole w.machine.ram pa len) pa len w; after = w }
+
+-- bytes that aren't all in RAM are not written, and the first address that isn't RAM is shown
+abbrev pub poked : Option ℕ → ℕ → List ℕ → World → Did
+poked (Some hole) pa bytes w = record { events = events.NotRam hole ∷ []; after = w }
+poked None pa bytes w = silent (record w { machine = record w.machine { ram = put_bytes w.machine.ram pa bytes } })
+
+unfoldable pub poke_command : ℕ → List ℕ → World → Did
+poke_command pa bytes w = poked (first_hole w.machine.ram pa (length bytes)) pa bytes w
+
+abbrev pub with_general : ℕ → ℕ → Cpu → Cpu
+with_general number value cpu = record cpu { gpr = slice_set cpu.gpr number value }
+
+-- the registers with one of them set
+abbrev pub with_register : RegName → ℕ → Cpu → Cpu
+with_register Rax value cpu = with_general 0 value cpu
+with_register Rcx value cpu = with_general 1 value cpu
+with_register Rdx value cpu = with_general 2 value cpu
+with_register Rbx value cpu = with_general 3 value cpu
+with_register Rsp value cpu = with_general 4 value cpu
+with_register Rbp value cpu = with_general 5 value cpu
+with_register Rsi value cpu = with_general 6 value cpu
+with_register Rdi value cpu = with_general 7 value cpu
+with_register R8 value cpu = with_general 8 value cpu
+with_register R9 value cpu = with_general 9 value cpu
+with_register R10 value cpu = with_general 10 value cpu
+with_register R11 value cpu = with_general 11 value cpu
+with_register R12 value cpu = with_general 12 value cpu
+with_register R13 value cpu = with_general 13 value cpu
+with_register R14 value cpu = with_general 14 value cpu
+with_register R15 value cpu = with_general 15 value cpu
+with_register Rip value cpu = record cpu { rip = value }
+with_register Rflags value cpu = record cpu { rflags = value }
+with_register Cr0 value cpu = record cpu { cr0 = value }
+with_register Cr2 value cpu = record cpu { cr2 = value }
+with_register Cr3 value cpu = record cpu { cr3 = value }
+with_register Cr4 value cpu = record cpu { cr4 = value }
+with_register Cr8 value cpu = record cpu { cr8 = value }
+with_register Efer value cpu = record cpu { efer = value }
+with_register Kgs value cpu = record cpu { kgs = value }
+with_register Cpl value cpu = record cpu { cpl = value }
+
+abbrev pub with_segment : SegReg → Seg → Cpu → Cpu
+with_segment Es value cpu = record cpu { es = value }
+with_segment Cs value cpu = record cpu { cs = value }
+with_segment Ss value cpu = record cpu { ss = value }
+with_segment Ds value cpu = record cpu { ds = value }
+with_segment Fs value cpu = record cpu { fs = value }
+with_segment Gs value cpu = record cpu { gs = value }
+with_segment Ldtr value cpu = record cpu { ldtr = value }
+with_segment Tr value cpu = record cpu { tr = value }
+
+abbrev pub with_table : DtName → Table → Cpu → Cpu
+with_table Gdtr value cpu = record cpu { gdtr = value }
+with_table Idtr value cpu = record cpu { idtr = value }
+
+-- only the draft changes
+abbrev pub drafted : World → Cpu → Did
+drafted w cpu = silent (record w { draft = cpu })
+
+unfoldable pub obeyed : World → Command → Did
+obeyed w (Reg name value) = drafted w (with_register name value w.draft)
+obeyed w (SetSegment name selector base limit attr) = drafted w (with_segment name (record { sel = selector; base = base; limit = limit; attr = attr }) w.draft)
+obeyed w (SetTable name base limit) = drafted w (with_table name (record { base = base; limit = limit }) w.draft)
+obeyed w (Poke pa bytes) = poke_command pa bytes.items w
+obeyed w (Dev space dir address items) = silent (record w { tape = with_device w.tape space dir address items.items })
+obeyed w (Run steps) = run_command steps w
+obeyed w Show = show_command w
+obeyed w (Dump pa len) = dump_command pa len w
+
+-- the events of commands
+unfoldable pub drive_from : World → List Command → List Event
+drive_from w [] = []
+drive_from w (c ∷ cs) = (obeyed w c).events ++ drive_from (obeyed w c).after cs
+
+-- RAM of zeros, the registers of a reset, and empty queues
+abbrev pub start : List Region → World
+start regions = record { machine = record { cpu = reset_state; ram = zeroed regions }; draft = reset_state; tape = empty_tape }
+
+-- the events of a scene
+unfoldable pub drive : List Region → List Command → List Event
+drive regions commands = drive_from (start regions) commands

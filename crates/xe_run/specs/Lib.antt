@@ -1,0 +1,9 @@
+pub mod Told
+pub mod Changes
+pub mod Shown
+pub mod Text
+pub mod Drive
+pub mod Turn
+pub mod Driver
+pub mod Driving
+pub mod Output

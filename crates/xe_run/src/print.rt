@@ -1,0 +1,82 @@
+//! Writing the lines of events.
+ghost use Rattle.std.specs.Prelude.{◌≡◌, ◌*◌, ◌≤◌, List, map, length, OnErr};
+ghost use Rattle.xe_run.specs.Told.{Rose, Writes};
+ghost use Rattle.xe_run.specs.Text.{text};
+ghost use Rattle.xe_run.specs.Text as texts;
+ghost use Rattle.xe_run.specs.Drive as spec;
+
+use crate::event::{Event, line_of};
+use crate::outside::{Failed, Sink};
+use arrayvec::ArrayVec;
+use xe_base::Made;
+
+/// Writes the line of an event, in one call.
+pub(crate) fn print<K: Sink>(event: &Event, out: &mut K) -> Result<(), Failed>
+    ensures writes { Writes result (K.written out.old) (texts.line_of event.now) (K.written out.new) }
+    ensures count { K.faults out.old ≤ K.faults out.new }
+    ensures failed { OnErr result (Rose (K.faults out.old) (K.faults out.new)) }
+{
+    out.write(line_of(event).as_bytes())
+}
+
+/// A device access as an event.
+fn io_event(made: &Made) -> Event
+    ensures { result ≡ spec.io_event made.now }
+{
+    Event::Io {
+        made: *made,
+        waits: 0,
+    }
+}
+
+/// Writes the lines of device accesses.
+pub(crate) fn print_accesses<K: Sink>(accesses: &[Made], out: &mut K) -> Result<(), Failed>
+    ensures writes { Writes result (K.written out.old) (text (map spec.io_event accesses.now)) (K.written out.new) }
+    ensures count { K.faults out.old ≤ K.faults out.new }
+    ensures failed { OnErr result (Rose (K.faults out.old) (K.faults out.new)) }
+{
+    for made in accesses {
+        print(&io_event(made), out)?;
+    }
+    Ok(())
+}
+
+/// Writes the lines of events.
+pub(crate) fn print_all<K: Sink>(events: &[Event], out: &mut K) -> Result<(), Failed>
+    ensures writes { Writes result (K.written out.old) (text events.now) (K.written out.new) }
+    ensures count { K.faults out.old ≤ K.faults out.new }
+    ensures failed { OnErr result (Rose (K.faults out.old) (K.faults out.new)) }
+{
+    for event in events {
+        print(event, out)?;
+    }
+    Ok(())
+}
+
+/// A line of memory: the bytes from `16 * line` on, at most 16.
+fn memory_line(pa: u64, bytes: &[u8], line: usize) -> Event
+    requires few { length bytes.now ≤ 0x1000 }
+    requires within { 16 * line ≤ length bytes.now }
+    ensures { result ≡ spec.memory_line pa bytes.now line }
+{
+    let start = 16 * line;
+    let end = bytes.len().min(start + 16);
+    let mut piece = ArrayVec::new();
+    piece.try_extend_from_slice(&bytes[start..end]).unwrap();
+    Event::Memory(pa.wrapping_add(start as u64), piece)
+}
+
+/// Writes bytes of memory, 16 a line.
+#[tactic(auto, unfolding(crate::specs::Drive::memory_shown))]
+pub(crate) fn print_memory<K: Sink>(pa: u64, bytes: &[u8], out: &mut K) -> Result<(), Failed>
+    requires { length bytes.now ≤ 0x1000 }
+    ensures writes { Writes result (K.written out.old) (text (spec.memory_shown pa bytes.now)) (K.written out.new) }
+    ensures count { K.faults out.old ≤ K.faults out.new }
+    ensures failed { OnErr result (Rose (K.faults out.old) (K.faults out.new)) }
+{
+    let lines = (bytes.len() + 15) / 16;
+    for line in 0..lines {
+        print(&memory_line(pa, bytes, line), out)?;
+    }
+    Ok(())
+}

@@ -1,0 +1,207 @@
+use super::*;
+use std::alloc::Global;
+use std::io::Cursor;
+use std::test::Fail;
+
+const PORT_READ: &str =
+    "x86emu 1\nram 0 10000\npoke 7c00 b84100e460f4\nreg rip 7c00\ndev port r 60 5a\nrun 10\n";
+
+const FIRST_LINE: &[u8] = b"step mov 1 rip=7c03 flags=2 rax=41\n";
+
+const TRACE: &[u8] =
+    b"step mov 1 rip=7c03 flags=2 rax=41\nio port r 60 1 5a 0\nstep in 1 rip=7c05 flags=2 rax=5a\nstep hlt 1 rip=7c06 flags=2 retire=4\n";
+
+fn words(alloc: Global, text: &str) -> Result<Vec<String>, Fail> {
+    let mut words = Vec::new(alloc);
+    for word in text.split(' ') {
+        words.push(String::from_str(alloc, word)?)?;
+    }
+    Ok(words)
+}
+
+fn numbers(alloc: Global, list: &[u64]) -> Result<Vec<u64>, Fail> {
+    Ok(list.to_vec(alloc)?)
+}
+
+/// Runs the words over a text, with the reads and writes of these numbers failing.
+fn ran(
+    alloc: Global,
+    asked: &str,
+    text: &str,
+    failing_reads: &[u64],
+    failing_writes: &[u64],
+) -> Result<(Status, Vec<u8>, u64), Fail> {
+    let words = words(alloc, asked)?;
+    let mut src = ListSource::new(
+        text.as_bytes().to_vec(alloc)?,
+        numbers(alloc, failing_reads)?,
+    );
+    let mut out = VecSink::new(
+        Vec::with_capacity(alloc, 1024)?,
+        numbers(alloc, failing_writes)?,
+    );
+    let status = run(alloc, &words, &mut src, &mut out);
+    let VecSink { bytes, .. } = out;
+    Ok((status, bytes, src.calls))
+}
+
+#[test]
+fn runs_a_scene(rt: HostRuntime) -> Result<(), Fail> {
+    let (status, bytes, _) = ran(rt.alloc(), "run", PORT_READ, &[], &[])?;
+    assert_eq!(rt; status, Status::Ok);
+    assert_eq!(rt; bytes.as_slice(), TRACE);
+    Ok(())
+}
+
+#[test]
+fn refuses_a_bad_line(rt: HostRuntime) -> Result<(), Fail> {
+    let (status, bytes, _) = ran(rt.alloc(), "run", "x86emu 1\nrun 1\nbatch 3\n", &[], &[])?;
+    assert_eq!(rt; status, Status::Refused);
+    assert_eq!(rt;
+        bytes.as_slice(),
+        b"refused line 3 reason 15 not built\n".as_slice()
+    );
+    Ok(())
+}
+
+/// What `check` writes for a text.
+fn checked(alloc: Global, text: &str) -> Result<Vec<u8>, Fail> {
+    let (_, bytes, _) = ran(alloc, "check", text, &[], &[])?;
+    Ok(bytes)
+}
+
+/// A text for each reason but for length, and one that is accepted; without a last newline.
+const CHECKS: [(&str, &str); 16] = [
+    ("x86emu 1", "ok\n"),
+    ("", "refused line 1 reason 1 header\n"),
+    (
+        "x86emu 1\nram 0\t1000",
+        "refused line 2 reason 2 bad byte\n",
+    ),
+    (
+        "x86emu 1\n#########################################################################################################################################################################################################",
+        "refused line 2 reason 3 long line\n",
+    ),
+    ("x86emu 1\nshow \nstop", "refused line 2 reason 4 spacing\n"),
+    (
+        "x86emu 1\nstop",
+        "refused line 2 reason 5 unknown command\n",
+    ),
+    (
+        "x86emu 1\nreg rax",
+        "refused line 2 reason 6 wrong number of words\n",
+    ),
+    (
+        "x86emu 1\nreg ax x",
+        "refused line 2 reason 7 unknown name\n",
+    ),
+    (
+        "x86emu 1\nreg cpl 100",
+        "refused line 2 reason 8 bad number\n",
+    ),
+    (
+        "x86emu 1\nram 0 1000\npoke 0 1",
+        "refused line 3 reason 9 bad bytes\n",
+    ),
+    (
+        "x86emu 1\nram 0 1000\nram 800 1000",
+        "refused line 3 reason 10 bad region\n",
+    ),
+    (
+        "x86emu 1\nram 0 1001000",
+        "refused line 2 reason 11 too much ram\n",
+    ),
+    (
+        "x86emu 1\nshow\nram 0 1000",
+        "refused line 3 reason 12 late ram\n",
+    ),
+    (
+        "x86emu 1\nrun 1000000\nrun 1",
+        "refused line 3 reason 13 too many\n",
+    ),
+    ("x86emu 1\ncall", "refused line 2 reason 15 not built\n"),
+    (
+        "x86emu 1\ndev port r 60 wait",
+        "refused line 2 reason 15 not built\n",
+    ),
+];
+
+#[test]
+fn checks_texts(rt: HostRuntime) -> Result<(), Fail> {
+    for (text, wanted) in CHECKS {
+        let bytes = checked(rt.alloc(), text)?;
+        assert_eq!(rt; bytes.as_slice(), wanted.as_bytes());
+    }
+    Ok(())
+}
+
+/// Every rule of a valid state that a draft may break, and what is said of each.
+const BAD_DRAFTS: &str =
+    "x86emu 1\nreg rflags 0\nrun 1\nreg cr0 0\nrun 1\nreg cr4 1\nshow\nreg efer 2\nshow\nreg cr8 10\nshow\nseg es 0 100000000 0 93\nshow\nreg cpl 1\nshow\nreg cr4 20\nreg efer 500\nreg cr0 80000011\nseg cs 0 0 ffff 69b\nshow\nreg rip 100000000\nshow\nreg cr0 11\nshow\nrun 1\n";
+
+const BAD_DRAFTS_TRACE: &[u8] =
+    b"badstate 1\nbadstate 2\nbadstate 3\nbadstate 4\nbadstate 5\nbadstate 6\nbadstate 7\nbadstate 8\nbadstate 9\nbadstate 20\nhandoff - fetch 0\n";
+
+#[test]
+fn refuses_drafts(rt: HostRuntime) -> Result<(), Fail> {
+    let (status, bytes, _) = ran(rt.alloc(), "run", BAD_DRAFTS, &[], &[])?;
+    assert_eq!(rt; status, Status::Ok);
+    assert_eq!(rt; bytes.as_slice(), BAD_DRAFTS_TRACE);
+    Ok(())
+}
+
+#[test]
+fn shows_memory_and_what_is_not_ram(rt: HostRuntime) -> Result<(), Fail> {
+    let text =
+        "x86emu 1\nram 0 10000\nreg cr0 0\nrun 1\ndump fff0 20\npoke fffe aabbcc\npoke fffe aabb\ndump ffef 11\n";
+    let (status, bytes, _) = ran(rt.alloc(), "run", text, &[], &[])?;
+    assert_eq!(rt; status, Status::Ok);
+    assert_eq!(rt;
+        bytes.as_slice(),
+        b"badstate 2\nnotram 10000\nnotram 10000\nmem ffef 000000000000000000000000000000aa\nmem ffff bb\n".as_slice()
+    );
+    Ok(())
+}
+
+#[test]
+fn reads_nothing_for_other_words(rt: HostRuntime) -> Result<(), Fail> {
+    for asked in ["run x", "gen 01 1", "check run", ""] {
+        let (status, bytes, reads) = ran(rt.alloc(), asked, PORT_READ, &[], &[])?;
+        assert_eq!(rt; status, Status::Usage);
+        assert_eq!(rt;
+            bytes.as_slice(),
+            b"usage: x86emu run | check | gen SEED COUNT\n".as_slice()
+        );
+        assert_eq!(rt; reads, 0);
+    }
+    Ok(())
+}
+
+#[test]
+fn tells_a_failed_read(rt: HostRuntime) -> Result<(), Fail> {
+    for call in [0, 1] {
+        let (status, bytes, _) = ran(rt.alloc(), "run", PORT_READ, &[call], &[])?;
+        assert_eq!(rt; status, Status::ReadFault);
+        assert!(rt; bytes.is_empty());
+    }
+    Ok(())
+}
+
+#[test]
+fn tells_a_failed_write(rt: HostRuntime) -> Result<(), Fail> {
+    let (status, bytes, _) = ran(rt.alloc(), "run", PORT_READ, &[], &[1])?;
+    assert_eq!(rt; status, Status::WriteFault);
+    assert_eq!(rt; bytes.as_slice(), FIRST_LINE);
+    Ok(())
+}
+
+#[test]
+fn runs_over_a_reader_and_a_writer(rt: HostRuntime) -> Result<(), Fail> {
+    let alloc = rt.alloc();
+    let mut src = ReaderSource::new(Cursor::new(PORT_READ.as_bytes()));
+    let mut out = VecSink::new(Vec::with_capacity(alloc, 1024)?, Vec::new(alloc));
+    let status = run(alloc, &words(alloc, "run")?, &mut src, &mut out);
+    assert_eq!(rt; status.number(), 0);
+    assert_eq!(rt; out.bytes.as_slice(), TRACE);
+    Ok(())
+}
