@@ -146,7 +146,7 @@ module _ (insn : Insn) (cpu : Cpu) (valid : Valid cpu) where
       let imm = low 1 insn.imm in
       let after : Cpu = writes insn (with_flags cpu (bcd_flags op ax imm cpu.rflags)) 2 0 (bcd_ax op ax imm cpu.rflags) in
       each_if IsSound (divides op && imm == 0) (fault divide_error) (ends insn after) tt
-        (sound_end insn cpu after valid (tame_register 2 (has_rex insn) 0 (bcd_ax op ax imm cpu.rflags) (tame_flags (bcd_flags op ax imm cpu.rflags) (tame_same cpu) (fixed_written cpu.rflags _))))
+      (sound_end insn cpu after valid (tame_register 2 (has_rex insn) 0 (bcd_ax op ax imm cpu.rflags) (tame_flags (bcd_flags op ax imm cpu.rflags) (tame_same cpu) (fixed_written cpu.rflags _))))
 
   calm_bt : EachGives IsSound (bt_row insn cpu)
   calm_bt = asked_then IsSound _ _ (λ a. sound_end insn cpu _ valid (tame_flags _ (tame_same cpu) (fixed_written cpu.rflags _)))

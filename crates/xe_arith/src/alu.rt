@@ -7,15 +7,17 @@ ghost use Rattle.xe_ctx.specs.View.{view, cpu_of, SameHandles, IsOpen, accesses_
 ghost use Rattle.xe_arith.specs.Alu.{alu_target, alu_source, alu_row, cmp_row, test_source, test_row};
 ghost use Rattle.xe_arith.specs.Source.{IsSource};
 
+use crate::sized::{alu_at, with_flags};
+use crate::source::{Source, read_source};
 use xe_base::Cpu;
-use xe_ctx::operand::{Operand, ends_with, operand_of, read_for_write, read_operand, reg_of, size_by_opcode, write_operand};
+use xe_ctx::operand::{
+    Operand, ends_with, operand_of, read_for_write, read_operand, reg_of, size_by_opcode,
+    write_operand,
+};
 use xe_ctx::{Bus, Ctx, Finish, Stop};
 use xe_flags::AluOp;
 use xe_icpt::Intercepts;
 use xe_opmap::Insn;
-
-use crate::sized::{alu_at, with_flags};
-use crate::source::{Source, read_source};
 
 /// The operand that is changed or compared: G in the third and fourth form of an operation, else E or
 /// the accumulator.
@@ -51,7 +53,11 @@ fn alu_source(insn: &Insn, cpu: &Cpu) -> Source
 }
 
 /// ADD, OR, ADC, SBB, AND, SUB and XOR (SDM volume 2).
-pub fn alu<B: Bus, I: Intercepts>(op: AluOp, insn: &Insn, ctx: &mut Ctx<B, I>) -> Result<Finish, Stop>
+pub fn alu<B: Bus, I: Intercepts>(
+    op: AluOp,
+    insn: &Insn,
+    ctx: &mut Ctx<B, I>,
+) -> Result<Finish, Stop>
     requires insn { IsOf (cpu_of ctx.old) insn.now }
     requires open { IsOpen B.sight ctx.old }
     requires accesses { 12 ≤ accesses_left ctx.old }

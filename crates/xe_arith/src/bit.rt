@@ -7,14 +7,16 @@ ghost use Rattle.xe_ctx.specs.Is.{Is};
 ghost use Rattle.xe_ctx.specs.View.{view, cpu_of, SameHandles, IsOpen, accesses_left, bytes_left};
 ghost use Rattle.xe_arith.specs.Bit.{bit_offset, bytes_to_bit, moved, bit_operand, bit_place, bt_row, bit_row, found_written, scan_row};
 
+use crate::sized::{bit_at, scan_at, with_flags};
 use xe_base::{Cpu, Word};
-use xe_ctx::operand::{Operand, ends_with, operand_of, read_for_write, read_operand, read_register, reg_of, write_operand, write_register};
+use xe_ctx::operand::{
+    Operand, ends_with, operand_of, read_for_write, read_operand, read_register, reg_of,
+    write_operand, write_register,
+};
 use xe_ctx::{Bus, Ctx, Finish, Stop};
 use xe_flags::{BitOp, ScanOp};
 use xe_icpt::Intercepts;
 use xe_opmap::Insn;
-
-use crate::sized::{bit_at, scan_at, with_flags};
 
 /// Where the bit is named: in G, or in an immediate byte.
 fn bit_offset(insn: &Insn, cpu: &Cpu) -> u64
@@ -105,7 +107,11 @@ pub fn bt<B: Bus, I: Intercepts>(insn: &Insn, ctx: &mut Ctx<B, I>) -> Result<Fin
 }
 
 /// BTS, BTR and BTC (SDM volume 2).
-pub fn change_bit<B: Bus, I: Intercepts>(op: BitOp, insn: &Insn, ctx: &mut Ctx<B, I>) -> Result<Finish, Stop>
+pub fn change_bit<B: Bus, I: Intercepts>(
+    op: BitOp,
+    insn: &Insn,
+    ctx: &mut Ctx<B, I>,
+) -> Result<Finish, Stop>
     requires insn { IsOf (cpu_of ctx.old) insn.now }
     requires open { IsOpen B.sight ctx.old }
     requires accesses { 10 ≤ accesses_left ctx.old }
@@ -138,7 +144,11 @@ fn found_written(insn: &Insn, cpu: &Cpu, register: u8, found: Option<u64>) -> Cp
 }
 
 /// BSF, BSR and POPCNT (SDM volume 2).
-pub fn scan<B: Bus, I: Intercepts>(op: ScanOp, insn: &Insn, ctx: &mut Ctx<B, I>) -> Result<Finish, Stop>
+pub fn scan<B: Bus, I: Intercepts>(
+    op: ScanOp,
+    insn: &Insn,
+    ctx: &mut Ctx<B, I>,
+) -> Result<Finish, Stop>
     requires insn { IsOf (cpu_of ctx.old) insn.now }
     requires open { IsOpen B.sight ctx.old }
     requires accesses { 10 ≤ accesses_left ctx.old }

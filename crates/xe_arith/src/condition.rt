@@ -7,7 +7,9 @@ ghost use Rattle.xe_ctx.specs.View.{view, cpu_of, SameHandles, IsOpen, accesses_
 ghost use Rattle.xe_arith.specs.Condition.{holds, cmov_row, set_row};
 
 use xe_base::Cpu;
-use xe_ctx::operand::{ends_with, operand_of, read_operand, read_register, reg_of, write_operand, write_register};
+use xe_ctx::operand::{
+    ends_with, operand_of, read_operand, read_register, reg_of, write_operand, write_register,
+};
 use xe_ctx::{Bus, Ctx, Finish, Stop};
 use xe_flags::condition;
 use xe_icpt::Intercepts;
@@ -45,7 +47,13 @@ pub fn cmov<B: Bus, I: Intercepts>(insn: &Insn, ctx: &mut Ctx<B, I>) -> Result<F
     let cpu = *ctx.cpu();
     let size = insn.opsize;
     let value = read_operand(insn, ctx, operand_of(insn, &cpu), size)?;
-    let after = write_register(insn, &cpu, size, reg_of(insn, &cpu), chosen(insn, &cpu, value));
+    let after = write_register(
+        insn,
+        &cpu,
+        size,
+        reg_of(insn, &cpu),
+        chosen(insn, &cpu, value),
+    );
     Ok(ends_with(insn, after))
 }
 

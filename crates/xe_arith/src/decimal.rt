@@ -6,14 +6,13 @@ ghost use Rattle.xe_ctx.specs.Is.{Is};
 ghost use Rattle.xe_ctx.specs.View.{view, cpu_of, SameHandles, IsOpen};
 ghost use Rattle.xe_arith.specs.Decimal.{divides, decimal_row};
 
+use crate::multiply::divide_error;
+use crate::sized::with_flags;
 use xe_ctx::operand::{ends_with, read_register, write_register};
 use xe_ctx::{Bus, Ctx, Finish, Stop};
 use xe_flags::{BcdOp, bcd};
 use xe_icpt::Intercepts;
 use xe_opmap::Insn;
-
-use crate::multiply::divide_error;
-use crate::sized::with_flags;
 
 /// Whether the operation divides by its immediate.
 fn divides(op: BcdOp) -> bool
@@ -26,7 +25,11 @@ fn divides(op: BcdOp) -> bool
 }
 
 /// DAA, DAS, AAA, AAS, AAM and AAD (SDM volume 2).
-pub fn decimal<B: Bus, I: Intercepts>(op: BcdOp, insn: &Insn, ctx: &mut Ctx<B, I>) -> Result<Finish, Stop>
+pub fn decimal<B: Bus, I: Intercepts>(
+    op: BcdOp,
+    insn: &Insn,
+    ctx: &mut Ctx<B, I>,
+) -> Result<Finish, Stop>
     requires open { IsOpen B.sight ctx.old }
     ensures same { SameHandles ctx.old ctx.new }
     ensures open { IsOpen B.sight ctx.new }

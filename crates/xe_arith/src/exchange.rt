@@ -7,14 +7,16 @@ ghost use Rattle.xe_ctx.specs.Is.{Is};
 ghost use Rattle.xe_ctx.specs.View.{view, cpu_of, SameHandles, IsOpen, accesses_left, bytes_left};
 ghost use Rattle.xe_arith.specs.Exchange.{xadd_row, put_back, compared, cmpxchg_row, half_size, joined, expected, replacement, pair_stored, with_zero, pair_loaded, pair_row, long_base, is_misaligned, general_protection, undefined, pair_at, cmpxchg8b_row};
 
+use crate::sized::{alu_at, with_flags};
 use xe_base::{Cpu, Fault, SegName};
-use xe_ctx::operand::{Operand, ends_with, operand_of, read_for_write, read_register, reg_of, size_by_opcode, write_operand, write_register};
+use xe_ctx::operand::{
+    Operand, ends_with, operand_of, read_for_write, read_register, reg_of, size_by_opcode,
+    write_operand, write_register,
+};
 use xe_ctx::{Bus, Ctx, Finish, Stop};
 use xe_flags::{AluOp, Status, status_of, with_status};
 use xe_icpt::Intercepts;
 use xe_opmap::Insn;
-
-use crate::sized::{alu_at, with_flags};
 
 /// XADD (SDM volume 2, "XADD—Exchange and Add").
 pub fn xadd<B: Bus, I: Intercepts>(insn: &Insn, ctx: &mut Ctx<B, I>) -> Result<Finish, Stop>
@@ -40,7 +42,14 @@ pub fn xadd<B: Bus, I: Intercepts>(insn: &Insn, ctx: &mut Ctx<B, I>) -> Result<F
 
 /// A number goes back to where it was read: memory is written, a register stays.
 #[tactic(auto, using(xe_ctx::proofs::Trees::row_rules), unfolding(crate::specs::Exchange::put_back))]
-fn put_back<B: Bus, I: Intercepts>(insn: &Insn, ctx: &mut Ctx<B, I>, cpu: Cpu, operand: Operand, size: u8, value: u64) -> Result<Cpu, Stop>
+fn put_back<B: Bus, I: Intercepts>(
+    insn: &Insn,
+    ctx: &mut Ctx<B, I>,
+    cpu: Cpu,
+    operand: Operand,
+    size: u8,
+    value: u64,
+) -> Result<Cpu, Stop>
     requires size { IsTrue (is_size size) }
     requires register { IsOperand operand }
     requires open { IsOpen B.sight ctx.old }
@@ -58,7 +67,15 @@ fn put_back<B: Bus, I: Intercepts>(insn: &Insn, ctx: &mut Ctx<B, I>, cpu: Cpu, o
 
 /// CMPXCHG after the comparison: equal, E gets G; else the accumulator gets E, and E keeps its number.
 #[tactic(auto, using(xe_ctx::proofs::Trees::row_rules), unfolding(crate::specs::Exchange::compared))]
-fn compared<B: Bus, I: Intercepts>(insn: &Insn, ctx: &mut Ctx<B, I>, cpu: Cpu, operand: Operand, size: u8, register: u8, value: u64) -> Result<Cpu, Stop>
+fn compared<B: Bus, I: Intercepts>(
+    insn: &Insn,
+    ctx: &mut Ctx<B, I>,
+    cpu: Cpu,
+    operand: Operand,
+    size: u8,
+    register: u8,
+    value: u64,
+) -> Result<Cpu, Stop>
     requires size { IsTrue (is_size size) }
     requires operand { IsOperand operand }
     requires g { register ≡ reg_of insn.now }
@@ -96,7 +113,15 @@ pub fn cmpxchg<B: Bus, I: Intercepts>(insn: &Insn, ctx: &mut Ctx<B, I>) -> Resul
     let a = read_register(insn, &cpu, size, 0);
     let b = read_for_write(insn, ctx, target, size)?;
     let (_, flags) = alu_at(AluOp::Cmp, size, a, b, cpu.rflags);
-    let after = compared(insn, ctx, with_flags(&cpu, flags), target, size, register, b)?;
+    let after = compared(
+        insn,
+        ctx,
+        with_flags(&cpu, flags),
+        target,
+        size,
+        register,
+        b,
+    )?;
     Ok(ends_with(insn, after))
 }
 
@@ -196,7 +221,12 @@ fn pair_loaded(insn: &Insn, cpu: &Cpu, old: u128) -> Cpu
 }
 
 /// The exchange of a pair with memory.
-fn exchange_pair<B: Bus, I: Intercepts>(insn: &Insn, ctx: &mut Ctx<B, I>, segment: SegName, offset: u64) -> Result<Finish, Stop>
+fn exchange_pair<B: Bus, I: Intercepts>(
+    insn: &Insn,
+    ctx: &mut Ctx<B, I>,
+    segment: SegName,
+    offset: u64,
+) -> Result<Finish, Stop>
     requires open { IsOpen B.sight ctx.old }
     requires accesses { 10 ≤ accesses_left ctx.old }
     requires bytes { 36 ≤ bytes_left ctx.old }

@@ -5,14 +5,13 @@ ghost use Rattle.xe_ctx.specs.Is.{Is};
 ghost use Rattle.xe_ctx.specs.View.{view, cpu_of, SameHandles, IsOpen};
 ghost use Rattle.xe_arith.specs.Flag.{cmc_row, clc_row, stc_row, with_direction, direction_row, high_byte_of_ax, sahf_row, lahf_row};
 
+use crate::sized::with_flags;
 use xe_base::Cpu;
 use xe_ctx::operand::ends_with;
 use xe_ctx::{Bus, Ctx, Finish, Stop};
 use xe_flags::{Status, flag, status_of, with_status};
 use xe_icpt::Intercepts;
 use xe_opmap::Insn;
-
-use crate::sized::with_flags;
 
 /// CMC (SDM volume 2, "CMC—Complement Carry Flag").
 pub fn cmc<B: Bus, I: Intercepts>(insn: &Insn, ctx: &mut Ctx<B, I>) -> Result<Finish, Stop>
@@ -23,7 +22,10 @@ pub fn cmc<B: Bus, I: Intercepts>(insn: &Insn, ctx: &mut Ctx<B, I>) -> Result<Fi
 {
     let cpu = *ctx.cpu();
     let carry = !flag(cpu.rflags, 0);
-    let status = Status { carry, ..status_of(cpu.rflags) };
+    let status = Status {
+        carry,
+        ..status_of(cpu.rflags)
+    };
     Ok(ends_with(insn, with_flags(&cpu, with_status(cpu.rflags, status))))
 }
 
@@ -35,7 +37,10 @@ pub fn clc<B: Bus, I: Intercepts>(insn: &Insn, ctx: &mut Ctx<B, I>) -> Result<Fi
     ensures row { Is (clc_row insn.now (cpu_of ctx.old)) (view B.sight I.hits ctx.old) result (view B.sight I.hits ctx.new) }
 {
     let cpu = *ctx.cpu();
-    let status = Status { carry: false, ..status_of(cpu.rflags) };
+    let status = Status {
+        carry: false,
+        ..status_of(cpu.rflags)
+    };
     Ok(ends_with(insn, with_flags(&cpu, with_status(cpu.rflags, status))))
 }
 
@@ -47,7 +52,10 @@ pub fn stc<B: Bus, I: Intercepts>(insn: &Insn, ctx: &mut Ctx<B, I>) -> Result<Fi
     ensures row { Is (stc_row insn.now (cpu_of ctx.old)) (view B.sight I.hits ctx.old) result (view B.sight I.hits ctx.new) }
 {
     let cpu = *ctx.cpu();
-    let status = Status { carry: true, ..status_of(cpu.rflags) };
+    let status = Status {
+        carry: true,
+        ..status_of(cpu.rflags)
+    };
     Ok(ends_with(insn, with_flags(&cpu, with_status(cpu.rflags, status))))
 }
 
@@ -59,7 +67,11 @@ fn with_direction(flags: u64, down: bool) -> u64
 }
 
 /// CLD and STD (SDM volume 2).
-pub fn direction<B: Bus, I: Intercepts>(down: bool, insn: &Insn, ctx: &mut Ctx<B, I>) -> Result<Finish, Stop>
+pub fn direction<B: Bus, I: Intercepts>(
+    down: bool,
+    insn: &Insn,
+    ctx: &mut Ctx<B, I>,
+) -> Result<Finish, Stop>
     requires open { IsOpen B.sight ctx.old }
     ensures same { SameHandles ctx.old ctx.new }
     ensures open { IsOpen B.sight ctx.new }
@@ -85,7 +97,10 @@ pub fn sahf<B: Bus, I: Intercepts>(insn: &Insn, ctx: &mut Ctx<B, I>) -> Result<F
 {
     let cpu = *ctx.cpu();
     let overflow = flag(cpu.rflags, 11);
-    let status = Status { overflow, ..status_of(high_byte_of_ax(&cpu)) };
+    let status = Status {
+        overflow,
+        ..status_of(high_byte_of_ax(&cpu))
+    };
     Ok(ends_with(insn, with_flags(&cpu, with_status(cpu.rflags, status))))
 }
 

@@ -18,10 +18,9 @@ mod rows;
 mod shift;
 mod sized;
 mod source;
-mod unary;
-
 #[cfg(test)]
 mod tests;
+mod unary;
 
 pub use laws::rows_keep_states_valid;
 pub use rows::{exec, is_row};

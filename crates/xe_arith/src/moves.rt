@@ -9,13 +9,15 @@ ghost use Rattle.xe_ctx.specs.View.{view, cpu_of, SameHandles, IsOpen, accesses_
 ghost use Rattle.xe_arith.specs.Moves.{move_size, at_address, move_target, move_source, mov_row, offset_of, lea_row, exchange_size, exchange_partner, xchg_row, nop_row, table_byte, xlat_row, reversed, bswap_row};
 ghost use Rattle.xe_arith.specs.Source.{IsSource};
 
+use crate::source::{Source, read_source};
 use xe_base::{Cpu, SegName};
-use xe_ctx::operand::{Operand, ends_with, opcode_register, operand_of, read_for_write, read_operand, read_register, reg_of, size_by_opcode, write_operand, write_register};
+use xe_ctx::operand::{
+    Operand, ends_with, opcode_register, operand_of, read_for_write, read_operand, read_register,
+    reg_of, size_by_opcode, write_operand, write_register,
+};
 use xe_ctx::{Bus, Ctx, Finish, Stop};
 use xe_icpt::Intercepts;
 use xe_opmap::Insn;
-
-use crate::source::{Source, read_source};
 
 /// The size of a MOV in bytes: B0 to BF move an immediate to the register of the opcode, bytes up to
 /// B7; the other opcodes say their size by their last bit.
@@ -192,7 +194,8 @@ fn table_byte(insn: &Insn, cpu: &Cpu) -> Operand
     ensures value { result ≡ table_byte insn.now cpu.now }
     ensures register { IsOperand result }
 {
-    let sum = read_register(insn, cpu, insn.adsize, 3) as u128 + read_register(insn, cpu, 1, 0) as u128;
+    let sum = read_register(insn, cpu, insn.adsize, 3) as u128
+        + read_register(insn, cpu, 1, 0) as u128;
     let offset = match insn.adsize {
         2 => sum % (1 << 16),
         4 => sum % (1 << 32),

@@ -7,13 +7,14 @@ ghost use Rattle.xe_ctx.specs.Is.{Is};
 ghost use Rattle.xe_ctx.specs.View.{view, cpu_of, SameHandles, IsOpen, accesses_left, bytes_left};
 ghost use Rattle.xe_arith.specs.Multiply.{pair_written, high_word, mul_row, other_factor, imul_to_register, imul_row, divide_error, quotient_row, div_row};
 
+use crate::sized::{div_at, mul_at, with_flags};
 use xe_base::{Cpu, Fault};
-use xe_ctx::operand::{ends_with, operand_of, read_operand, read_register, reg_of, size_by_opcode, write_register};
+use xe_ctx::operand::{
+    ends_with, operand_of, read_operand, read_register, reg_of, size_by_opcode, write_register,
+};
 use xe_ctx::{Bus, Ctx, Finish, Stop};
 use xe_icpt::Intercepts;
 use xe_opmap::Insn;
-
-use crate::sized::{div_at, mul_at, with_flags};
 
 /// Two words to their places: AH and AL for bytes, else rDX and rAX.
 fn pair_written(insn: &Insn, cpu: &Cpu, size: u8, high: u64, word: u64) -> Cpu
@@ -42,7 +43,11 @@ fn high_word(insn: &Insn, cpu: &Cpu, size: u8) -> u64
 }
 
 /// MUL, and IMUL of the accumulator (SDM volume 2).
-pub fn mul<B: Bus, I: Intercepts>(is_signed: bool, insn: &Insn, ctx: &mut Ctx<B, I>) -> Result<Finish, Stop>
+pub fn mul<B: Bus, I: Intercepts>(
+    is_signed: bool,
+    insn: &Insn,
+    ctx: &mut Ctx<B, I>,
+) -> Result<Finish, Stop>
     requires insn { IsOf (cpu_of ctx.old) insn.now }
     requires open { IsOpen B.sight ctx.old }
     requires accesses { 10 ≤ accesses_left ctx.old }
@@ -56,7 +61,13 @@ pub fn mul<B: Bus, I: Intercepts>(is_signed: bool, insn: &Insn, ctx: &mut Ctx<B,
     let a = read_register(insn, &cpu, size, 0);
     let b = read_operand(insn, ctx, operand_of(insn, &cpu), size)?;
     let product = mul_at(is_signed, size, a, b, cpu.rflags);
-    let after = pair_written(insn, &with_flags(&cpu, product.flags), size, product.high, product.low);
+    let after = pair_written(
+        insn,
+        &with_flags(&cpu, product.flags),
+        size,
+        product.high,
+        product.low,
+    );
     Ok(ends_with(insn, after))
 }
 
@@ -121,7 +132,11 @@ pub fn divide_error() -> Stop
 }
 
 /// DIV and IDIV (SDM volume 2).
-pub fn div<B: Bus, I: Intercepts>(is_signed: bool, insn: &Insn, ctx: &mut Ctx<B, I>) -> Result<Finish, Stop>
+pub fn div<B: Bus, I: Intercepts>(
+    is_signed: bool,
+    insn: &Insn,
+    ctx: &mut Ctx<B, I>,
+) -> Result<Finish, Stop>
     requires insn { IsOf (cpu_of ctx.old) insn.now }
     requires open { IsOpen B.sight ctx.old }
     requires accesses { 10 ≤ accesses_left ctx.old }

@@ -7,11 +7,6 @@ ghost use Rattle.xe_ctx.specs.Operand.{IsOf};
 ghost use Rattle.xe_ctx.specs.View.{view, cpu_of, SameHandles, IsOpen, accesses_left, bytes_left};
 ghost use Rattle.xe_arith.specs.Rows.{is_move, is_operation, is_flag, is_shift, is_product, is_bit, is_row, row_of};
 
-use xe_ctx::{Bus, Ctx, Finish, Flow, Stop};
-use xe_flags::{AluOp, BcdOp, BitOp, ScanOp, ShiftOp, UnOp};
-use xe_icpt::Intercepts;
-use xe_opmap::{Insn, Row};
-
 use crate::alu::{alu, cmp, test};
 use crate::bit::{bt, change_bit, scan};
 use crate::condition::{cmov, set};
@@ -23,6 +18,10 @@ use crate::moves::{bswap, lea, mov, nop, xchg, xlat};
 use crate::multiply::{div, imul, mul};
 use crate::shift::{double_shift, shift};
 use crate::unary::unary;
+use xe_ctx::{Bus, Ctx, Finish, Flow, Stop};
+use xe_flags::{AluOp, BcdOp, BitOp, ScanOp, ShiftOp, UnOp};
+use xe_icpt::Intercepts;
+use xe_opmap::{Insn, Row};
 
 /// Moves: MOV, LEA, XCHG, NOP, XLAT, BSWAP, those that make a number wider, and those under a
 /// condition.
@@ -74,13 +73,7 @@ fn is_flag(row: Row) -> bool
     ensures { result ≡ is_flag row }
 {
     match row {
-        Row::Cmc
-        | Row::Clc
-        | Row::Stc
-        | Row::Cld
-        | Row::Std
-        | Row::Sahf
-        | Row::Lahf => true,
+        Row::Cmc | Row::Clc | Row::Stc | Row::Cld | Row::Std | Row::Sahf | Row::Lahf => true,
         _ => false,
     }
 }

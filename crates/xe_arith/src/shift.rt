@@ -6,14 +6,15 @@ ghost use Rattle.xe_ctx.specs.Is.{Is};
 ghost use Rattle.xe_ctx.specs.View.{view, cpu_of, SameHandles, IsOpen, accesses_left, bytes_left};
 ghost use Rattle.xe_arith.specs.Shift.{shift_count, shift_row, double_count, double_row};
 
+use crate::sized::{double_at, shift_at, with_flags};
 use xe_base::Cpu;
-use xe_ctx::operand::{ends_with, operand_of, read_for_write, read_register, reg_of, size_by_opcode, write_operand};
+use xe_ctx::operand::{
+    ends_with, operand_of, read_for_write, read_register, reg_of, size_by_opcode, write_operand,
+};
 use xe_ctx::{Bus, Ctx, Finish, Stop};
 use xe_flags::ShiftOp;
 use xe_icpt::Intercepts;
 use xe_opmap::Insn;
-
-use crate::sized::{double_at, shift_at, with_flags};
 
 /// The count of a shift: an immediate byte, one, or CL.
 fn shift_count(insn: &Insn, cpu: &Cpu) -> u8
@@ -37,7 +38,11 @@ fn read_count(insn: &Insn, cpu: &Cpu) -> u8
 }
 
 /// ROL, ROR, RCL, RCR, SHL, SHR and SAR (SDM volume 2).
-pub fn shift<B: Bus, I: Intercepts>(op: ShiftOp, insn: &Insn, ctx: &mut Ctx<B, I>) -> Result<Finish, Stop>
+pub fn shift<B: Bus, I: Intercepts>(
+    op: ShiftOp,
+    insn: &Insn,
+    ctx: &mut Ctx<B, I>,
+) -> Result<Finish, Stop>
     requires insn { IsOf (cpu_of ctx.old) insn.now }
     requires open { IsOpen B.sight ctx.old }
     requires accesses { 10 ≤ accesses_left ctx.old }
@@ -68,7 +73,11 @@ fn double_count(insn: &Insn, cpu: &Cpu) -> u8
 }
 
 /// SHLD and SHRD (SDM volume 2).
-pub fn double_shift<B: Bus, I: Intercepts>(left: bool, insn: &Insn, ctx: &mut Ctx<B, I>) -> Result<Finish, Stop>
+pub fn double_shift<B: Bus, I: Intercepts>(
+    left: bool,
+    insn: &Insn,
+    ctx: &mut Ctx<B, I>,
+) -> Result<Finish, Stop>
     requires insn { IsOf (cpu_of ctx.old) insn.now }
     requires open { IsOpen B.sight ctx.old }
     requires accesses { 10 ≤ accesses_left ctx.old }

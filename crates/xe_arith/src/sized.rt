@@ -14,7 +14,9 @@ ghost use Rattle.xe_flags.specs.Shifts.{shift_word, shift_flags};
 ghost use Rattle.xe_arith.specs.Sized.{low, with_flags};
 
 use xe_base::{Cpu, Word};
-use xe_flags::{AluOp, BitOp, ScanOp, ShiftOp, UnOp, alu, bit, div, double_shift, mul, scan, shift, unary};
+use xe_flags::{
+    AluOp, BitOp, ScanOp, ShiftOp, UnOp, alu, bit, div, double_shift, mul, scan, shift, unary,
+};
 
 /// The registers with these flags.
 pub fn with_flags(cpu: &Cpu, rflags: u64) -> Cpu

@@ -6,8 +6,8 @@ ghost use Rattle.xe_ctx.specs.Is.{Is};
 ghost use Rattle.xe_ctx.specs.View.{view, cpu_of, SameHandles, IsOpen, accesses_left, bytes_left};
 ghost use Rattle.xe_arith.specs.Source.{read_source, IsSource};
 
-use xe_ctx::{Bus, Ctx, Stop};
 use xe_ctx::operand::{Operand, read_operand};
+use xe_ctx::{Bus, Ctx, Stop};
 use xe_icpt::Intercepts;
 use xe_opmap::Insn;
 
@@ -20,7 +20,12 @@ pub enum Source {
 
 /// Reads a source.
 #[tactic(auto, using(xe_ctx::proofs::Trees::row_rules), unfolding(crate::specs::Source::read_source))]
-pub fn read_source<B: Bus, I: Intercepts>(insn: &Insn, ctx: &mut Ctx<B, I>, source: Source, size: u8) -> Result<u64, Stop>
+pub fn read_source<B: Bus, I: Intercepts>(
+    insn: &Insn,
+    ctx: &mut Ctx<B, I>,
+    source: Source,
+    size: u8,
+) -> Result<u64, Stop>
     requires open { IsOpen B.sight ctx.old }
     requires size { IsTrue (is_size size) }
     requires register { IsSource source }

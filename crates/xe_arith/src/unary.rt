@@ -7,14 +7,15 @@ ghost use Rattle.xe_ctx.specs.Is.{Is};
 ghost use Rattle.xe_ctx.specs.View.{view, cpu_of, SameHandles, IsOpen, accesses_left, bytes_left};
 ghost use Rattle.xe_arith.specs.Unary.{unary_size, unary_target, unary_row};
 
+use crate::sized::{unary_at, with_flags};
 use xe_base::Cpu;
-use xe_ctx::operand::{Operand, ends_with, opcode_register, operand_of, read_for_write, size_by_opcode, write_operand};
+use xe_ctx::operand::{
+    Operand, ends_with, opcode_register, operand_of, read_for_write, size_by_opcode, write_operand,
+};
 use xe_ctx::{Bus, Ctx, Finish, Stop};
 use xe_flags::UnOp;
 use xe_icpt::Intercepts;
 use xe_opmap::Insn;
-
-use crate::sized::{unary_at, with_flags};
 
 /// The size of the operand in bytes: that of the instruction for 40 to 4F, else the last bit of the
 /// opcode says it.
@@ -44,7 +45,11 @@ fn unary_target(insn: &Insn, cpu: &Cpu) -> Operand
 }
 
 /// INC, DEC, NOT and NEG (SDM volume 2).
-pub fn unary<B: Bus, I: Intercepts>(op: UnOp, insn: &Insn, ctx: &mut Ctx<B, I>) -> Result<Finish, Stop>
+pub fn unary<B: Bus, I: Intercepts>(
+    op: UnOp,
+    insn: &Insn,
+    ctx: &mut Ctx<B, I>,
+) -> Result<Finish, Stop>
     requires insn { IsOf (cpu_of ctx.old) insn.now }
     requires open { IsOpen B.sight ctx.old }
     requires accesses { 10 ≤ accesses_left ctx.old }
