@@ -25,8 +25,7 @@ use Rattle.xe_base.specs.Reset.{reset_state}
 use Rattle.xe_ctx.specs.Machine.{first_hole}
 use Rattle.xe_scene.specs.declared.command.Command.{Command}
 use Rattle.xe_run.specs.Text.{text, line_of}
-use Rattle.xe_run.specs.Drive.{World, Did, obeyed, drive_from, run_command, show_command, dump_command, memory_shown, shown, installed, with_draft, poke_command, poked, turns, redrafted, start, drive}
-use Rattle.xe_run.specs.declared.event.Event.{Event}
+use Rattle.xe_run.specs.Drive.{World, Did, obeyed, drive_from, run_command, show_command, dump_command, memory_shown, shown, installed, poke_command, poked, turns, redrafted, start, drive}
 use Rattle.xe_run.specs.declared.event.Event.TheVariants as events
 use Rattle.xe_run.proofs.TextLaws.{text-append, text-nil, text-one, next}
 

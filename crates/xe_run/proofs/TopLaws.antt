@@ -1,5 +1,5 @@
 -- From what was read and written to what there was to read and write.
-use Rattle.std.proofs.Common.{◌≡◌, ℕ, ◌+◌, ◌<◌, ◌≤◌, ◌⊎◌, if◌then◌else◌, Ok, Err, List, [], ◌++◌, Bool, true, false, ltb, Option, Some, None, Result, IfSome, length, take, drop, refl, sym, ap, ◌∙◌, subst, inl, inr, arith, length-append}
+use Rattle.std.proofs.Common.{◌≡◌, ℕ, ◌+◌, ◌<◌, ◌≤◌, ◌⊎◌, if◌then◌else◌, Err, List, [], ◌++◌, Bool, true, false, ltb, Option, Some, None, Result, IfSome, length, take, drop, refl, sym, ap, ◌∙◌, subst, inl, inr, arith, length-append}
 use Rattle.std.proofs.lemmas.List.{append-nil, take-append-le, drop_all}
 use Rattle.std.proofs.Math.Seq.{drop-append_seam}
 use Rattle.std.specs.List.{count_by}

@@ -1,5 +1,5 @@
 -- The registers that differ between two states, as they are printed. This project's choice.
-use Rattle.std.specs.Prelude.{ℕ, ◌==◌, ◌&&◌, Bool, if◌then◌else◌, List, [], ◌∷◌, ◌++◌, codes, false, slice_index}
+use Rattle.std.specs.Prelude.{ℕ, ◌==◌, ◌&&◌, Bool, if◌then◌else◌, List, [], ◌++◌, codes, false, slice_index}
 use Rattle.std.specs.Fmt.{digits}
 use Rattle.std.specs.List.{flat_map, range_with_len}
 use Rattle.xe_base.specs.declared.cpu.Cpu.{Cpu}

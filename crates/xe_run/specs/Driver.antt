@@ -1,5 +1,5 @@
 -- The driver as the world that it is, and the room of its queues.
-use Rattle.std.specs.Prelude.{◌≡◌, ◌≤◌, ◌-◌, ℕ, List}
+use Rattle.std.specs.Prelude.{◌≡◌, ◌≤◌, ◌-◌, List}
 use Rattle.xe_ctx.specs.Machine.{state_of}
 use Rattle.xe_ctx.specs.Tape.{Key}
 use Rattle.xe_scene.specs.Script.{tape_of, spare_of}

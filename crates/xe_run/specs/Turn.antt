@@ -1,5 +1,5 @@
 -- A turn as a report tells it.
-use Rattle.std.specs.Prelude.{◌≡◌, ℕ, List, [], ◌∷◌, ◌++◌, map, Option, None, if◌then◌else◌}
+use Rattle.std.specs.Prelude.{◌≡◌, List, [], ◌∷◌, ◌++◌, map, None, if◌then◌else◌}
 use Rattle.xe_base.specs.declared.cpu.Cpu.{Cpu}
 use Rattle.xe_ctx.specs.Tape.{begun}
 use Rattle.xe_ctx.specs.Supply.{from_tape}

@@ -1,4 +1,4 @@
-use Rattle.std.proofs.Common.{◌≡◌, ◌++◌, ap, sym, ◌∙◌, arith, List, ℕ}
+use Rattle.std.proofs.Common.{◌≡◌, ◌++◌, ap, ◌∙◌, arith, List, ℕ}
 use Rattle.xe_run.specs.Changes.{general_change}
 use Rattle.xe_run.proofs.ChangeLaws.{one-more, general-whole}
 use Rattle.xe_run.proofs.changes.push_general.Goals as goal

@@ -1,8 +1,3 @@
-use Rattle.std.proofs.Common.{◌≡◌, ap, sym, ◌∙◌, List, map}
-use Rattle.xe_base.specs.declared.access.Made.{Made}
-use Rattle.xe_run.specs.Text.{text, line_of}
-use Rattle.xe_run.specs.Drive.{io_event}
-use Rattle.xe_run.specs.Turn.{reported_events}
 use Rattle.xe_run.proofs.ToldLaws.{writes_then, writes_fails}
 use Rattle.xe_run.proofs.TurnLaws.{turn-text}
 use Rattle.xe_run.proofs.driver.tell_turn.Goals as goal

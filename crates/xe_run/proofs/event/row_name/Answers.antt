@@ -1,4 +1,3 @@
-use Rattle.std.proofs.Common.{◌≡◌, arith}
 use Rattle.xe_run.proofs.RowLaws.{name_is_short}
 use Rattle.xe_run.proofs.event.row_name.Goals as goal
 

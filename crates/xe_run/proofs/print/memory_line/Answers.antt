@@ -1,4 +1,4 @@
-use Rattle.std.proofs.Common.{◌≡◌, ◌+◌, ◌*◌, ◌%◌, ◌++◌, [], List, ℕ, ap, ◌∙◌, arith}
+use Rattle.std.proofs.Common.{◌+◌, ◌*◌, ◌%◌, List, ℕ, ap, ◌∙◌, arith}
 use Rattle.xe_run.specs.declared.event.Event.TheVariants.{Memory}
 use Rattle.xe_run.proofs.TextLaws.{memory-piece}
 use Rattle.xe_run.proofs.print.memory_line.Goals as goal

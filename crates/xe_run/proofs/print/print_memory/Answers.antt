@@ -1,4 +1,4 @@
-use Rattle.std.proofs.Common.{◌≡◌, ◌+◌, ◌-◌, ◌*◌, ◌/◌, ◌<◌, ◌≤◌, length, arith, refl, sym, ap}
+use Rattle.std.proofs.Common.{◌≡◌, ◌+◌, ◌-◌, ◌/◌, length, arith}
 use Rattle.xe_run.proofs.ToldLaws.{progress_begins, progress_more, progress_ends, progress_fails}
 use Rattle.xe_run.proofs.TextLaws.{memory-more, memory-past, memory-whole}
 use Rattle.xe_run.proofs.print.print_memory.Goals as goal

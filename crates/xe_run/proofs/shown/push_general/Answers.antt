@@ -1,4 +1,4 @@
-use Rattle.std.proofs.Common.{◌≡◌, ◌++◌, ap, sym, ◌∙◌, arith, List, ℕ, codes}
+use Rattle.std.proofs.Common.{◌≡◌, ◌++◌, ◌∙◌, arith, codes}
 use Rattle.xe_run.specs.Shown.{general_shown}
 use Rattle.xe_run.proofs.ChangeLaws.{one-more, shown-whole}
 use Rattle.xe_run.proofs.shown.push_general.Goals as goal

@@ -1,4 +1,4 @@
-use Rattle.std.proofs.Common.{◌≡◌, ℕ, rules, arith, length}
+use Rattle.std.proofs.Common.{rules, arith}
 use Rattle.std.proofs.lemmas.Grind.{common_steps}
 use Rattle.xe_run.specs.Driver.{world}
 use Rattle.xe_run.proofs.DriveLaws.{dump-within, dump-outside}

@@ -1,4 +1,3 @@
-use Rattle.std.proofs.Common.{◌≡◌, ap, sym, ◌∙◌, rules}
 use Rattle.xe_scene.specs.Queues.{key_of_queue}
 use Rattle.xe_run.proofs.DriveLaws.{feeds_here}
 use Rattle.xe_run.proofs.driver.Driver.feed.Goals as goal

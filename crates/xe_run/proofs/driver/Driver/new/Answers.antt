@@ -1,6 +1,3 @@
-use Rattle.std.proofs.Common.{◌≡◌, sym, subst}
-use Rattle.xe_base.specs.State.{Valid}
-use Rattle.xe_base.specs.declared.cpu.Cpu.{Cpu}
 use Rattle.xe_run.proofs.DriveLaws.{reset-valid}
 use Rattle.xe_run.proofs.driver.Driver.new.Goals as goal
 

@@ -1,4 +1,4 @@
-use Rattle.std.proofs.Common.{◌≡◌, ap, sym, ◌∙◌, arith}
+use Rattle.std.proofs.Common.{arith}
 use Rattle.xe_run.specs.Driver.{world}
 use Rattle.xe_run.proofs.ToldLaws.{progress_more, progress_ends, progress_fails}
 use Rattle.xe_run.proofs.DriveLaws.{drive-drop, drive-past, room-drop}

@@ -1,4 +1,4 @@
-use Rattle.std.proofs.Common.{◌≡◌, ap, sym, ◌∙◌, List, [], ℕ}
+use Rattle.std.proofs.Common.{◌≡◌, ap, sym, ◌∙◌, []}
 use Rattle.xe_ctx.specs.State.{State}
 use Rattle.xe_run.specs.Drive.{Did, poke_command}
 use Rattle.xe_run.specs.Driver.{world}

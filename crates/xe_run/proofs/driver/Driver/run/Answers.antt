@@ -1,10 +1,8 @@
-use Rattle.std.proofs.Common.{◌≡◌, ap, sym, ◌∙◌, List, ℕ, Some, None}
-use Rattle.xe_base.specs.State.{broken}
+use Rattle.std.proofs.Common.{◌≡◌, ap, sym, ◌∙◌}
 use Rattle.xe_ctx.specs.State.{State}
-use Rattle.xe_run.specs.Drive.{World, Did, run_command, redrafted}
+use Rattle.xe_run.specs.Drive.{Did, run_command, redrafted}
 use Rattle.xe_run.specs.Driver.{world}
 use Rattle.xe_run.specs.Text.{text, line_of}
-use Rattle.xe_run.specs.declared.event.Event.{Event}
 use Rattle.xe_run.specs.declared.event.Event.TheVariants.{BadState}
 use Rattle.xe_run.proofs.DriveLaws.{answered_ok, answered_err, run-events, run-after, run-broken, on_ok}
 use Rattle.xe_run.proofs.ToldLaws.{writes_err}

@@ -1,7 +1,6 @@
-use Rattle.std.proofs.Common.{◌≡◌, ap, sym, ◌∙◌, List, ℕ, Some, None}
-use Rattle.xe_base.specs.State.{broken}
+use Rattle.std.proofs.Common.{◌≡◌, ap, sym, ◌∙◌, List}
 use Rattle.xe_ctx.specs.State.{State}
-use Rattle.xe_run.specs.Drive.{World, Did, show_command, shown, redrafted}
+use Rattle.xe_run.specs.Drive.{Did, show_command, redrafted}
 use Rattle.xe_run.specs.Driver.{world}
 use Rattle.xe_run.specs.Text.{text, line_of}
 use Rattle.xe_run.specs.declared.event.Event.{Event}

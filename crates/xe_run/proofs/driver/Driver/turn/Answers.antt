@@ -1,4 +1,4 @@
-use Rattle.std.proofs.Common.{◌≡◌, ap, sym, refl, ◌∙◌}
+use Rattle.std.proofs.Common.{refl}
 use Rattle.xe_run.specs.Driver.{world}
 use Rattle.xe_run.proofs.ToldLaws.{writes_err}
 use Rattle.xe_run.proofs.TurnLaws.{turn-told}

@@ -1,7 +1,6 @@
-use Rattle.std.proofs.Common.{◌≡◌, ◌-◌, ◌+◌, ◌<◌, ap, sym, refl, ◌∙◌, arith, false, true}
+use Rattle.std.proofs.Common.{◌-◌, ◌+◌, sym, refl, ◌∙◌, arith}
 use Rattle.xe_run.specs.Driver.{world}
-use Rattle.xe_run.specs.Drive.{turn}
-use Rattle.xe_run.proofs.ToldLaws.{progress_begins, progress_more, progress_ends, progress_fails}
+use Rattle.xe_run.proofs.ToldLaws.{progress_more, progress_ends, progress_fails}
 use Rattle.xe_run.proofs.TurnLaws.{begins-so, goes-on, stops-here, turns-past, then_nothing}
 use Rattle.xe_run.proofs.driver.Driver.turns.Goals as goal
 
