@@ -10,7 +10,7 @@ use Rattle.xe_ctx.specs.Operand.{IsOf}
 use Rattle.xe_ctx.specs.Tree.{Tree, ◌>>=◌, device, point}
 use Rattle.xe_ctx.specs.declared.stop.Finish.{Finish}
 use Rattle.xe_arith.specs.Rows.{is_row, row_of}
-use Rattle.xe_arith.proofs.Sound.{sound_rows}
+use Rattle.xe_arith.proofs.CalmRows.{rows_sound}
 use Rattle.xe_core.specs.Rows.{table, row_at, in_row, hlt_row, EachFinish}
 use Rattle.xe_core.proofs.Valid.{valid_next}
 
@@ -31,12 +31,12 @@ rows In insn cpu h = of-form _ insn cpu h
 rows Hlt insn cpu h = sound-hlt insn cpu h
 rows _ insn cpu h = tt
 
-either : (b : Bool) (insn : Insn) (cpu : Cpu) → Valid cpu → EachFinish IsSound (if b then Some (row_of insn) else row_at insn.row insn) cpu
-either true insn cpu h = sound_rows insn cpu h
-either false insn cpu h = rows insn.row insn cpu h
+either : (b : Bool) (insn : Insn) (cpu : Cpu) → is_row insn.row ≡ b → IsOf cpu insn → Valid cpu → EachFinish IsSound (if b then Some (row_of insn) else row_at insn.row insn) cpu
+either true insn cpu e of_ h = rows_sound insn cpu e of_ h
+either false insn cpu e of_ h = rows insn.row insn cpu h
 
 pub sound_table : (insn : Insn) (cpu : Cpu) → IsOf cpu insn → Valid cpu → EachFinish IsSound (table insn) cpu
-sound_table insn cpu of_ h = either (is_row insn.row) insn cpu h
+sound_table insn cpu of_ h = either (is_row insn.row) insn cpu refl of_ h
 
 pub sound_row : (insn : Insn) (cpu : Cpu) (tree : Cpu → Tree Finish) → table insn ≡ Some tree → IsOf cpu insn → Valid cpu → EachGives IsSound (tree cpu)
 sound_row insn cpu tree e of_ h = subst (λ o. EachFinish IsSound o cpu) e (sound_table insn cpu of_ h)
