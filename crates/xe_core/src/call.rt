@@ -12,14 +12,13 @@ ghost use Rattle.xe_ctx.specs.Tape.{Tape, Key};
 ghost use Rattle.xe_ctx.specs.View.{view};
 ghost use Rattle.xe_core.specs.Emulate.{step_of, Follows, Reports, is_done};
 
+use crate::fetch::{instruction, outcome_of};
+use crate::rows::exec;
 use arrayvec::ArrayVec;
 use xe_base::{Cpu, Made};
 use xe_ctx::{Bus, Ctx, Machine, Outcome, Report};
 use xe_icpt::Intercepts;
 use xe_opmap::Row;
-
-use crate::fetch::{instruction, outcome_of};
-use crate::rows::exec;
 
 /// Whether TF is set, so that a trap follows the step.
 fn is_trapped(cpu: &Cpu) -> bool
@@ -94,7 +93,11 @@ fn one_step<B: Bus, I: Intercepts>(m: &mut Machine, icpt: &I, bus: &mut B) -> Re
     match exec(&insn, &mut ctx) {
         None => {
             ctx.end();
-            stopped(Some(insn.row), Outcome::Unbuilt(Some(insn.row)), ArrayVec::new())
+            stopped(
+                Some(insn.row),
+                Outcome::Unbuilt(Some(insn.row)),
+                ArrayVec::new(),
+            )
         }
         Some(Ok(finish)) => {
             let accesses = accesses_of(&ctx);

@@ -1,5 +1,6 @@
 //! A few steps of a machine, through the public call.
 
+use crate::emulate;
 use std::alloc::Global;
 use std::process::Abort;
 use std::test::Fail;
@@ -8,8 +9,6 @@ use xe_ctx::{Bus, Machine, Outcome};
 use xe_icpt::NoHits;
 use xe_mem::{GuestMem, Region};
 use xe_opmap::Row;
-
-use crate::emulate;
 
 /// Devices that answer 0.
 #[derive(Drop)]

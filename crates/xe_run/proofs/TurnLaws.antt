@@ -19,7 +19,7 @@ use Rattle.xe_run.proofs.TextLaws.{text-append, text-nil, text-one}
 
 -- a turn that didn't finish names no finished row, and one that did names its own
 same_end : (before after : Cpu) (row finished : Option Row) (n : ℕ) (o : Outcome) → n ≡ (if is_done o then 1 else 0) → finished ≡ (if is_done o then row else None)
-    → end_event before after finished n row o ≡ end_event before after row 1 row o
+    → end_event before after n finished row o ≡ end_event before after 1 row row o
 same_end before after row finished n (ends.Done more retire) e f = rw (e, f) refl
 same_end before after row finished n (ends.Fault fault) e f = refl
 same_end before after row finished n (ends.Intercept exit) e f = refl
@@ -56,10 +56,10 @@ told-of old new draft before began after r f b e d = record {
 
 -- the text of a turn: the lines of its accesses, and then its last line
 pub turn-text : (before after : Cpu) (r : Report)
-    → text (reported_events before after r) ≡ text (map io_event r.accesses.items) ++ line_of (end_event before after r.finished r.elements r.row r.outcome)
+    → text (reported_events before after r) ≡ text (map io_event r.accesses.items) ++ line_of (end_event before after r.elements r.finished r.row r.outcome)
 turn-text before after r =
-    text-append (map io_event r.accesses.items) (end_event before after r.finished r.elements r.row r.outcome ∷ [])
-    ∙ ap (λ (x : List ℕ). text (map io_event r.accesses.items) ++ x) (text-one (end_event before after r.finished r.elements r.row r.outcome))
+    text-append (map io_event r.accesses.items) (end_event before after r.elements r.finished r.row r.outcome ∷ [])
+    ∙ ap (λ (x : List ℕ). text (map io_event r.accesses.items) ++ x) (text-one (end_event before after r.elements r.finished r.row r.outcome))
 
 -- one turn before the turns that are left
 pub turns-more : (n : ℕ) (w : World) → turns (suc n) w ≡ and_then (turn w) (turns n (turn w).after)

@@ -55,18 +55,18 @@ abbrev pub io_event : Made → Event
 io_event made = events.Io made 0
 
 -- how a turn ended: the last finished step with the count of steps and the registers before and after them, or what ended the last one
-abbrev pub end_event : Cpu → Cpu → Option Row → ℕ → Option Row → Outcome → Event
-end_event before after finished count row (ends.Done more retire) = events.Step finished count before after retire
-end_event before after finished count row (ends.Fault fault) = events.Fault row fault
-end_event before after finished count row (ends.Intercept exit) = events.Exit row exit
-end_event before after finished count row (ends.Event kind vector next) = events.Interrupt row kind vector next
-end_event before after finished count row (ends.Handoff handoff) = events.Handoff row handoff
-end_event before after finished count row ends.Unhandled = events.Unhandled
-end_event before after finished count row (ends.Unbuilt unbuilt) = events.Unbuilt unbuilt
+abbrev pub end_event : Cpu → Cpu → ℕ → Option Row → Option Row → Outcome → Event
+end_event before after count finished row (ends.Done more retire) = events.Step finished count before after retire
+end_event before after count finished row (ends.Fault fault) = events.Fault row fault
+end_event before after count finished row (ends.Intercept exit) = events.Exit row exit
+end_event before after count finished row (ends.Event kind vector next) = events.Interrupt row kind vector next
+end_event before after count finished row (ends.Handoff handoff) = events.Handoff row handoff
+end_event before after count finished row ends.Unhandled = events.Unhandled
+end_event before after count finished row (ends.Unbuilt unbuilt) = events.Unbuilt unbuilt
 
 -- the accesses of the step, and then how it ended
 abbrev pub turn_events : Cpu → Ended → List Event
-turn_events before e = map io_event e.made ++ end_event before e.state.cpu e.row 1 e.row e.outcome ∷ []
+turn_events before e = map io_event e.made ++ end_event before e.state.cpu 1 e.row e.row e.outcome ∷ []
 
 -- the processor halts: bit 2 of what retirement brings with it, which HLT alone sets
 abbrev pub is_halt : ℕ → Bool

@@ -18,4 +18,4 @@ pub record IsTold (old : World) (r : Report) (new : World) : Type 0 where
 
 -- the events of a turn with this report
 abbrev pub reported_events : Cpu → Cpu → Report → List Event
-reported_events before after r = map io_event r.accesses.items ++ end_event before after r.finished r.elements r.row r.outcome ∷ []
+reported_events before after r = map io_event r.accesses.items ++ end_event before after r.elements r.finished r.row r.outcome ∷ []

@@ -34,7 +34,7 @@ pub(crate) struct Driver {
 
 /// How a turn ended, as an event.
 fn end_event(report: &Report, before: &Cpu, after: &Cpu) -> Event
-    ensures { result ≡ spec.end_event before.now after.now report.now.finished report.now.elements report.now.row report.now.outcome }
+    ensures { result ≡ spec.end_event before.now after.now report.now.elements report.now.finished report.now.row report.now.outcome }
 {
     match report.outcome {
         Outcome::Done { retire, .. } => Event::Step {
