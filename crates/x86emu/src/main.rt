@@ -2,30 +2,53 @@
 //! standard output are handed to the top call, whose status is the program's.
 #![tactic(auto)]
 
+ghost use Rattle.std.specs.Prelude.{◌≡◌, drop};
+ghost use Rattle.std.specs.Process.{exit_status};
+ghost use Rattle.x86emu.specs.Ending.{exit_number};
+
 use std::env::Env;
 use std::process::ExitCode;
 use std::{env, io};
-use xe_run::{ReaderSource, WriterSink, run};
+use xe_run::{ReaderSource, Status, WriterSink, run};
 
 /// The status where the system doesn't give the words.
 const NO_WORDS: u8 = 6;
 
-/// The words after the program's name.
-fn words<R: Env + AllocGlobal>(rt: &R) -> io::Result<Vec<String>> {
-    let mut words = Vec::new(rt.alloc());
-    for word in env::args(rt)?.skip(1) {
-        words.push(word)?;
+/// The arguments behind the first, which is the program's name.
+fn behind_the_name(arguments: Vec<String>) -> Vec<String>
+    ensures { result.items ≡ drop 1 arguments.items }
+{
+    let mut words = arguments;
+    if !words.is_empty() {
+        words.remove(0);
     }
-    Ok(words)
+    words
+}
+
+/// The words that the program was called with.
+fn words<R: Env + AllocGlobal>(rt: &R) -> io::Result<Vec<String>> {
+    Ok(behind_the_name(env::args(rt)?.collect(rt.alloc())?))
+}
+
+/// How the program ends: with the number of the run's status, and where the system didn't give the
+/// words, so that nothing was run, with one of its own.
+fn exit_code(status: Option<Status>) -> ExitCode
+    ensures { exit_status result ≡ exit_number status }
+{
+    match status {
+        Some(status) => ExitCode::from(status.number()),
+        None => ExitCode::from(NO_WORDS),
+    }
 }
 
 fn main(rt: HostRuntime) -> ExitCode {
-    match words(&rt) {
+    let status = match words(&rt) {
         Ok(words) => {
             let mut source = ReaderSource::new(rt.reader());
             let mut sink = WriterSink::new(io::writer(&rt));
-            ExitCode::from(run(rt.alloc(), &words, &mut source, &mut sink).number())
+            Some(run(rt.alloc(), &words, &mut source, &mut sink))
         }
-        Err(_) => ExitCode::from(NO_WORDS),
-    }
+        Err(_) => None,
+    };
+    exit_code(status)
 }
