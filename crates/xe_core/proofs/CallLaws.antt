@@ -1,4 +1,4 @@
-use Rattle.std.proofs.Common.{ℕ, ◌≡◌, ◌+◌, ◌≤◌, List, [], ◌++◌, length, All, Bool, Option, Some, None, Result, Ok, Err, refl, sym, ap, ◌∙◌, if◌then◌else◌, subst, arith}
+use Rattle.std.proofs.Common.{ℕ, ◌≡◌, ◌+◌, List, [], ◌++◌, Bool, Option, Some, None, Result, Ok, Err, refl, sym, ap, ◌∙◌, if◌then◌else◌, subst, arith}
 use Rattle.std.proofs.lemmas.List.{append-nil}
 use Rattle.std.proofs.lemmas.List.Elements.{All-nil}
 use Rattle.arrayvec.specs.ArrayVec.{ArrayVec}
@@ -14,16 +14,14 @@ use Rattle.xe_opmap.specs.declared.insn.Insn.{Insn}
 use Rattle.xe_opmap.specs.declared.row.Row.{Row}
 use Rattle.xe_ctx.specs.Accept.{accepted}
 use Rattle.xe_ctx.specs.Bus.{BusView}
-use Rattle.xe_ctx.specs.Fetch.{avail}
 use Rattle.xe_ctx.specs.Finishes.{IsSound}
 use Rattle.xe_ctx.specs.Is.{Sight, Moves, Equals, Is, is, does}
 use Rattle.xe_ctx.specs.Part.{View, Gave, Stops, begins}
 use Rattle.xe_ctx.specs.Operand.{IsOf}
 use Rattle.xe_ctx.specs.Run.{run}
 use Rattle.xe_ctx.specs.State.{State}
-use Rattle.xe_ctx.specs.Step.{Stepped, Ends, step, stepped, executed, concluded, early, reported, outcome_of, retired, tf}
+use Rattle.xe_ctx.specs.Step.{Ends, step, stepped, executed, concluded, early, reported, outcome_of, retired, tf}
 use Rattle.xe_ctx.specs.Supply.{Supply, Supplies, answers_alone, answers, from_tape}
-use Rattle.xe_ctx.specs.Tape.{Tape}
 use Rattle.xe_ctx.specs.Tree.{Tree}
 use Rattle.xe_ctx.specs.View.{opens, accepts}
 use Rattle.xe_ctx.specs.declared.report.Outcome.{Outcome}
@@ -32,7 +30,7 @@ use Rattle.xe_ctx.specs.declared.report.Report.{Report}
 use Rattle.xe_ctx.specs.declared.stop.Finish.{Finish}
 use Rattle.xe_ctx.specs.declared.stop.Stop.{Stop}
 use Rattle.xe_ctx.proofs.FinishLaws.{supplied, gives_of}
-use Rattle.xe_core.specs.Emulate.{decided, decoding, fetched, step_of, Follows, Reports}
+use Rattle.xe_core.specs.Emulate.{decided, fetched, step_of, Reports}
 use Rattle.xe_core.specs.Rows.{table, DoesRow}
 use Rattle.xe_core.proofs.RowLaws.{sound_row}
 

@@ -1,7 +1,6 @@
-use Rattle.std.proofs.Common.{ℕ, zero, suc, ◌≡◌, ◌<◌, ◌≤◌, ◌+◌, List, [], ◌∷◌, ◌++◌, length, take, get_or, refl, sym, ap, ◌∙◌, arith, Result, Ok, Err, Bool, nat_lt, true, false, slice_index, length-append, if◌then◌else◌}
-use Rattle.std.proofs.lemmas.Bool.Decides.{nat_tests}
-use Rattle.std.proofs.lemmas.List.{take_more, take_all, length-take}
-use Rattle.xe_ctx.specs.Fetch.{Avail, avail, avail_from, before, byte_at, code_byte, general_protection}
+use Rattle.std.proofs.Common.{ℕ, zero, suc, ◌≡◌, ◌≤◌, ◌+◌, List, length, take, refl, ap, ◌∙◌, arith, Result, Ok, Err}
+use Rattle.std.proofs.lemmas.List.{take_all, length-take}
+use Rattle.xe_ctx.specs.Fetch.{Avail, avail, avail_from, before, code_byte, general_protection}
 use Rattle.xe_ctx.specs.State.{State}
 use Rattle.xe_ctx.specs.declared.stop.Stop.{Stop}
 use Rattle.xe_ctx.specs.declared.stop.Stop.TheVariants.{Fault as Faults}

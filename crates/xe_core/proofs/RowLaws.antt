@@ -1,4 +1,4 @@
-use Rattle.std.proofs.Common.{ℕ, ◌≡◌, ◌==◌, Bool, true, false, if◌then◌else◌, Option, Some, None, lit<, refl, subst}
+use Rattle.std.proofs.Common.{◌≡◌, Bool, true, false, if◌then◌else◌, Some, None, lit<, refl, subst}
 use Rattle.xe_base.specs.Registers.{with_register}
 use Rattle.xe_base.specs.State.{Valid}
 use Rattle.xe_base.specs.declared.cpu.Cpu.{Cpu}

@@ -16,7 +16,7 @@ use Rattle.xe_ctx.specs.Supply.{Supply, answers_alone, answers, from_tape}
 use Rattle.xe_ctx.specs.Tape.{Tape, Key}
 use Rattle.xe_ctx.specs.declared.ctx.Ctx.{Ctx}
 use Rattle.xe_ctx.specs.declared.report.Outcome.{Outcome}
-use Rattle.xe_ctx.specs.declared.report.Outcome.TheVariants.{Done, Fault, Intercept, Event, Handoff, Unhandled, Unbuilt}
+use Rattle.xe_ctx.specs.declared.report.Outcome.TheVariants.{Done, Fault, Unhandled}
 use Rattle.xe_ctx.specs.declared.report.Report.{Report}
 use Rattle.xe_ctx.specs.declared.stop.Stop.{Stop}
 use Rattle.xe_core.specs.Rows.{table}

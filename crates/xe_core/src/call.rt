@@ -47,27 +47,43 @@ fn accesses_of<B: Bus, I: Intercepts>(ctx: &Ctx<B, I>) -> ArrayVec<Made, 256>
 }
 
 /// The report of a step that finished.
-fn finished(row: Row, more: bool, retire: u8, accesses: ArrayVec<Made, 256>) -> Report
-    ensures { result ≡ record { row = Some row; finished = Some row; elements = 1; accesses = accesses; outcome = Done more retire } }
+#[inline(never)]
+fn finished<B: Bus, I: Intercepts>(row: Row, more: bool, retire: u8, ctx: &Ctx<B, I>) -> Report
+    ensures { result ≡ record { row = Some row; finished = Some row; elements = 1; accesses = record { items = (view B.sight I.hits ctx.now).step.made }; outcome = Done more retire } }
 {
     Report {
         row: Some(row),
         finished: Some(row),
         elements: 1,
-        accesses,
+        accesses: accesses_of(ctx),
         outcome: Outcome::Done { more, retire },
     }
 }
 
-/// The report of a step that didn't finish.
-fn stopped(row: Option<Row>, outcome: Outcome, accesses: ArrayVec<Made, 256>) -> Report
-    ensures { result ≡ record { row = row; finished = None; elements = 0; accesses = accesses; outcome = outcome } }
+/// The report of a step that its instruction didn't finish.
+#[inline(never)]
+fn stopped<B: Bus, I: Intercepts>(row: Row, outcome: Outcome, ctx: &Ctx<B, I>) -> Report
+    ensures { result ≡ record { row = Some row; finished = None; elements = 0; accesses = record { items = (view B.sight I.hits ctx.now).step.made }; outcome = outcome } }
+{
+    Report {
+        row: Some(row),
+        finished: None,
+        elements: 0,
+        accesses: accesses_of(ctx),
+        outcome,
+    }
+}
+
+/// The report of a step that ended before its instruction was begun, and so made no access.
+#[inline(never)]
+fn unbegun(row: Option<Row>, outcome: Outcome) -> Report
+    ensures { result ≡ record { row = row; finished = None; elements = 0; accesses = record { items = [] }; outcome = outcome } }
 {
     Report {
         row,
         finished: None,
         elements: 0,
-        accesses,
+        accesses: ArrayVec::new(),
         outcome,
     }
 }
@@ -86,29 +102,25 @@ fn one_step<B: Bus, I: Intercepts>(m: &mut Machine, icpt: &I, bus: &mut B) -> Re
         Ok(insn) => insn,
         Err(outcome) => {
             ctx.end();
-            return stopped(None, outcome, ArrayVec::new());
+            return unbegun(None, outcome);
         }
     };
     ctx.accept(insn.len);
     match exec(&insn, &mut ctx) {
         None => {
             ctx.end();
-            stopped(
-                Some(insn.row),
-                Outcome::Unbuilt(Some(insn.row)),
-                ArrayVec::new(),
-            )
+            unbegun(Some(insn.row), Outcome::Unbuilt(Some(insn.row)))
         }
         Some(Ok(finish)) => {
-            let accesses = accesses_of(&ctx);
-            ctx.commit(finish.cpu);
             let retire = retired(finish.retire, is_trapped);
-            finished(insn.row, finish.more, retire, accesses)
+            let report = finished(insn.row, finish.more, retire, &ctx);
+            ctx.commit(finish.cpu);
+            report
         }
         Some(Err(stop)) => {
-            let accesses = accesses_of(&ctx);
+            let report = stopped(insn.row, outcome_of(stop), &ctx);
             ctx.end();
-            stopped(Some(insn.row), outcome_of(stop), accesses)
+            report
         }
     }
 }

@@ -1,4 +1,4 @@
-use Rattle.std.proofs.Common.{◌∙◌, ◌≡◌, sym, ap, rules, refl}
+use Rattle.std.proofs.Common.{◌∙◌, sym, ap, rules, refl}
 use Rattle.xe_ctx.specs.Is.{Sight}
 use Rattle.xe_ctx.specs.Machine.{state_of}
 use Rattle.xe_ctx.specs.Step.{tf}
@@ -12,7 +12,7 @@ pub returns-in-Err-clause-reports : goal.returns-in-Err-clause-reports
 returns-in-Err-clause-reports g c =
     let same = ap (λ (v : Sight). v.step.start) c.begin-ctx.ensures.start in
     let bus = ap (λ (v : Sight). v.bus) (c.in-Err.ensures.step ∙ c.begin-ctx.ensures.start) in
-    early_reports _ _ _ _ _ _ _ _ (ap fetched (sym same) ∙ sym c.in-Err.ensures.value) c.stopped.ensures c.new.ensures (search rules) (search (rules, bus))
+    early_reports _ _ _ _ _ _ _ _ (ap fetched (sym same) ∙ sym c.in-Err.ensures.value) c.unbegun.ensures refl (search rules) (search (rules, bus))
 
 -- one that isn't built
 pub returns-in-None-clause-reports : goal.returns-in-None-clause-reports
@@ -20,7 +20,7 @@ returns-in-None-clause-reports g c =
     let same = ap (λ (v : Sight). v.step.start) c.begin-ctx.ensures.start in
     let none = none_built _ _ _ _ c.in-None.ensures.row in
     let bus = ap (λ (v : Sight). v.bus) none.1 ∙ ap (λ (v : Sight). v.bus) c.accept.ensures.step ∙ ap (λ (v : Sight). v.bus) (c.in-Ok.ensures.step ∙ c.begin-ctx.ensures.start) in
-    unbuilt_reports _ _ _ _ _ _ _ _ (ap fetched (sym same) ∙ sym c.in-Ok.ensures.value) none.0 c.stopped-in-None.ensures c.new-in-None.ensures (search rules) (search (rules, bus))
+    unbuilt_reports _ _ _ _ _ _ _ _ (ap fetched (sym same) ∙ sym c.in-Ok.ensures.value) none.0 c.unbegun-in-None.ensures refl (search rules) (search (rules, bus))
 
 -- one that finished
 pub commit-requires-clause-valid : goal.commit-requires-clause-valid
@@ -37,11 +37,11 @@ pub returns-in-Some-Ok-clause-reports : goal.returns-in-Some-Ok-clause-reports
 returns-in-Some-Ok-clause-reports g c =
     finished_reports _ _ _ _ _ _ _ _ _ _ _ _ _
     (did (state_of c.args.m.now) _ _ _ _ _ _ _ _ _ _ _ (ap (λ (v : Sight). v.step.start) c.begin-ctx.ensures.start) c.in-Ok.ensures.value c.in-Ok.ensures.insn c.begin-ctx.ensures.start c.in-Ok.ensures.step c.accept.ensures.step (ap (λ (m : Machine). m.cpu) (c.accept.ensures.same.machine_is ∙ c.in-Ok.ensures.same.machine_is ∙ c.begin-ctx.ensures.machine_is)) c.in-Some-Ok.ensures.row c.in-Some-Ok.field-0-is)
-    c.finished.ensures c.retired-retire.ensures (c.is_trapped-is_trapped.ensures ∙ ap tf c.cpu.ensures.value) (search rules) c.accesses_of-accesses.ensures (search rules)
+    c.finished-report.ensures c.retired-retire.ensures (c.is_trapped-is_trapped.ensures ∙ ap tf c.cpu.ensures.value) (search rules) refl (search rules)
 
 -- one that stopped
 pub returns-in-Some-Err-clause-reports : goal.returns-in-Some-Err-clause-reports
 returns-in-Some-Err-clause-reports g c =
     halted_reports _ _ _ _ _ _ _ _ _ _ _ _
     (did (state_of c.args.m.now) _ _ _ _ _ _ _ _ _ _ _ (ap (λ (v : Sight). v.step.start) c.begin-ctx.ensures.start) c.in-Ok.ensures.value c.in-Ok.ensures.insn c.begin-ctx.ensures.start c.in-Ok.ensures.step c.accept.ensures.step (ap (λ (m : Machine). m.cpu) (c.accept.ensures.same.machine_is ∙ c.in-Ok.ensures.same.machine_is ∙ c.begin-ctx.ensures.machine_is)) c.in-Some-Err.ensures.row c.in-Some-Err.field-0-is)
-    c.stopped-in-Some-Err.ensures c.outcome_of.ensures.value (search rules) c.accesses_of-accesses-in-Some-Err.ensures (search rules)
+    c.stopped-report.ensures c.outcome_of.ensures.value (search rules) refl (search rules)

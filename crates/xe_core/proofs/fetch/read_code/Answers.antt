@@ -1,4 +1,4 @@
-use Rattle.std.proofs.Common.{◌≤◌, arith, length}
+use Rattle.std.proofs.Common.{arith}
 use Rattle.xe_core.specs.Emulate.{state_in}
 use Rattle.xe_core.proofs.FetchLaws.{code_full}
 use Rattle.xe_core.proofs.fetch.read_code.Goals as goal
