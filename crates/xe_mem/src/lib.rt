@@ -11,7 +11,7 @@ mod moves;
 pub mod region;
 
 pub use guest_mem::GuestMem;
-pub use region::{MemFault, Region};
+pub use region::{MAX_BYTES, MAX_REGIONS, MemFault, Region};
 
 #[cfg(test)]
 mod tests;

@@ -53,7 +53,7 @@ impl Region {
 
     /// Whether the region is some whole pages below 2^40, from `low` on.
     #[tactic(auto, using(std::proofs::lemmas::Bool::Decides::nat_tests), unfolding(crate::specs::Layout::fits_after))]
-    pub(crate) fn fits_after(&self, low: u64) -> bool
+    pub fn fits_after(&self, low: u64) -> bool
         ensures { result ≡ fits_after low self.now }
     {
         self.start % PAGE == 0
