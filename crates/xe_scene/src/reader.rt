@@ -1,7 +1,7 @@
 //! What the lines so far said, with the counts that their bounds need.
 ghost use Rattle.std.specs.Prelude.{◌≡◌, ◌≤◌, [], length, map, IfOk, if◌then◌else◌};
 ghost use Rattle.std.specs.List.{list_any, slice_split};
-ghost use Rattle.xe_mem.specs.Layout.{fits_after, IsLayout};
+ghost use Rattle.xe_mem.specs.Layout.{IsLayout};
 ghost use Rattle.xe_scene.specs.Draft as spec;
 ghost use Rattle.xe_scene.specs.Formed.{IsFormed, IsFormedEntry};
 ghost use Rattle.xe_scene.specs.Queues.{same_queue};
@@ -16,7 +16,7 @@ use crate::words::{Entry, entry_of};
 use arrayvec::ArrayVec;
 use std::alloc::{AllocError, AllocFailed, Global};
 use std::marker::Model;
-use xe_mem::Region;
+use xe_mem::{MAX_BYTES, MAX_REGIONS, Region};
 
 /// Why a line was not read.
 #[derive(Clone, Copy, Debug, Drop, PartialEq, Eq)]
@@ -68,22 +68,6 @@ impl Model for Reader {
     ghost view = { draft };
 
     ghost invariant = { IsCounted };
-}
-
-/// The first address past those of RAM, which have 40 bits.
-const ADDRESS_END: u64 = 1 << 40;
-
-/// Whether a region is some whole pages below 2^40, from this address on.
-#[tactic(auto, using(std::proofs::lemmas::Bool::Decides::nat_tests), unfolding(xe_mem::specs::Layout::fits_after))]
-fn is_region_from(low: u64, r: &Region) -> bool
-    ensures { result ≡ fits_after low r.now }
-{
-    r.start % 4096 == 0
-        && r.len % 4096 == 0
-        && r.len > 0
-        && r.len <= ADDRESS_END
-        && r.start <= ADDRESS_END - r.len
-        && low <= r.start
 }
 
 fn item_count(command: &Command) -> usize
@@ -158,10 +142,10 @@ impl Reader {
     fn put_region(&mut self, region: Region) -> Result<(), LineFault>
         ensures { Puts result (spec.put self.old (Entry.Ram region)) self.new }
     {
-        if !is_region_from(self.ram_end, &region) {
+        if !region.fits_after(self.ram_end) {
             return Err(LineFault::Bad(Reason::BadRegion));
         }
-        if self.regions.len() >= 16 || self.ram.saturating_add(region.len) > 0x100_0000 {
+        if self.regions.len() >= MAX_REGIONS || self.ram.saturating_add(region.len) > MAX_BYTES {
             return Err(LineFault::Bad(Reason::TooMuchRam));
         }
         self.ram += region.len;

@@ -6,14 +6,14 @@ use Rattle.xe_scene.proofs.reader.Reader.put_region.Goals as goal
 
 pub overflow_add-self-2 : goal.overflow_add-self-2
 overflow_add-self-2 c =
-    let parts = fits-parts c.self.inside.ram_end c.args.region (sym c.is_region_from.ensures ∙ c.if-not-is_region_from.false) in
+    let parts = fits-parts c.self.inside.ram_end c.args.region (sym c.fits_after.ensures ∙ c.if-not-fits_after.false) in
     omega (arith, parts.below)
 
 pub invariant_of-self : goal.invariant_of-self
 invariant_of-self c =
     let i = c.self.invariant in
     let rs = c.self.inside.regions.items in
-    let whole : fits_after (end_behind 0 rs) c.args.region ≡ true = rw (← i.ram_end) (sym c.is_region_from.ensures ∙ c.if-not-is_region_from.false) in
+    let whole : fits_after (end_behind 0 rs) c.args.region ≡ true = rw (← i.ram_end) (sym c.fits_after.ensures ∙ c.if-not-fits_after.false) in
     let few : length rs < 16 = omega (arith, c.len.ensures.value) in
     let small : total rs + c.args.region.len ≤ 2 ^ 24 = rw (← i.ram) (omega (arith, c.saturating_add.ensures)) in
     record {
