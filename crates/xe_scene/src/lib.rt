@@ -2,7 +2,7 @@
 #![tactic(auto)]
 
 mod command;
-mod laws;
+pub mod laws;
 mod names;
 mod number;
 mod queue;
@@ -13,7 +13,6 @@ mod script_bus;
 mod words;
 
 pub use command::{Command, Commands, Dir, DtName, Item, RegName, Scene, SegReg};
-pub use laws::first_bad;
 pub use reading::{SceneFault, read_scene};
 pub use script_bus::ScriptBus;
 
