@@ -1,4 +1,5 @@
 pub mod NumberLaws
+pub mod ReadBackLaws
 pub mod WordLaws
 pub mod SceneLaws
 pub mod FirstLaws
