@@ -15,6 +15,21 @@ pub struct QueueName {
     pub address: u64,
 }
 
+impl QueueName {
+    ghost use Rattle.xe_scene.specs.Queues.{name_of, script_key};
+
+    /// The queue of a space, a direction and an address.
+    pub fn new(space: Space, write: bool, address: u64) -> QueueName
+        ensures { result ≡ name_of (script_key space write address) }
+    {
+        QueueName {
+            space,
+            write,
+            address,
+        }
+    }
+}
+
 /// The items of one queue, with room for those that are still to be fed.
 #[derive(Drop)]
 pub struct Queue {

@@ -94,14 +94,9 @@ fn new_queue(queues: &[QueueName], command: &Command) -> Option<QueueName>
     ensures { spec.with_queue queues.now command.now ≡ with_new queues.now result }
 {
     match command {
-        Command::Dev(space, dir, address, _) => another_queue(
-            queues,
-            QueueName {
-                space: *space,
-                write: dir.is_write(),
-                address: *address,
-            },
-        ),
+        Command::Dev(space, dir, address, _) => {
+            another_queue(queues, QueueName::new(*space, dir.is_write(), *address))
+        }
         _ => None,
     }
 }

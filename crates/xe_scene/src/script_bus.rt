@@ -133,11 +133,7 @@ fn make_room(queues: &mut Queues, alloc: Global, command: &Command) -> Result<()
 {
     match command {
         Command::Dev(space, dir, address, items) => {
-            let name = QueueName {
-                space: *space,
-                write: dir.is_write(),
-                address: *address,
-            };
+            let name = QueueName::new(*space, dir.is_write(), *address);
             add_queue(queues, alloc, name)?;
             widen_queue(queues, name, items.len())
         }
@@ -182,11 +178,7 @@ impl ScriptBus {
         ensures room { log_room self.new ≡ log_room self.old }
         ensures spare { (k : Key) → spare_of self.new k ≡ (if same_key k (script_key space write address) then spare_of self.old k - length items.now else spare_of self.old k) }
     {
-        let name = QueueName {
-            space,
-            write,
-            address,
-        };
+        let name = QueueName::new(space, write, address);
         feed_queue(&mut self.queues, name, items);
     }
 
@@ -211,11 +203,7 @@ impl Bus for ScriptBus {
     ghost sight = { sight_of };
 
     fn access(&mut self, a: Access) -> Answer {
-        let name = QueueName {
-            space: a.space,
-            write: a.write,
-            address: a.address,
-        };
+        let name = QueueName::new(a.space, a.write, a.address);
         let answer = reply(&a, take_item(&mut self.queues, name));
         self.log.push(Made { access: a, answer });
         answer

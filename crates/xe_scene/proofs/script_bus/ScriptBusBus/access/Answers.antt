@@ -12,8 +12,10 @@ unfolding ask
 returns c =
     let old = c.args.self.now.queues in
     let key = key_of c.args.a in
-    let queues = popped_queues old c.take_item.new.queues key c.take_item.ensures.rest in
-    let reply = c.reply-answer.ensures.value ∙ ap (reply_to c.args.a) c.take_item.ensures.first ∙ first_replied c.args.a (queue_at old key).waiting in
+    let first = rw c.new-name.ensures at c.take_item.ensures.first in
+    let rest = rw c.new-name.ensures at c.take_item.ensures.rest in
+    let queues = popped_queues old c.take_item.new.queues key rest in
+    let reply = c.reply-answer.ensures.value ∙ ap (reply_to c.args.a) first ∙ first_replied c.args.a (queue_at old key).waiting in
     let log = c.push.ensures.items ∙ ap (λ (r : Answer). let m : Made = record { access = c.args.a; answer = r } in c.args.self.now.log.items ++ m ∷ []) reply in record {
       fits = c.reply-answer.ensures.fits;
       told = (
@@ -22,5 +24,5 @@ returns c =
             ∙ ap (λ (l : List Made). let t : Tape = record { queues = with_queue (waiting old) key (drop 1 (waiting old key)); log = l } in Some t) log,
       );
       room_ = omega (arith, c.push.ensures.len);
-      spare_ = spare_kept old c.take_item.new.queues key c.take_item.ensures.rest;
+      spare_ = spare_kept old c.take_item.new.queues key rest;
     }
