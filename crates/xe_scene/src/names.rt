@@ -8,7 +8,7 @@ use xe_base::Space;
 
 /// A command that is built.
 #[derive(Clone, Copy, Drop)]
-pub enum CommandName {
+pub(crate) enum CommandName {
     Ram,
     Reg,
     Seg,

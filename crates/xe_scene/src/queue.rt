@@ -9,17 +9,17 @@ use xe_base::Space;
 
 /// A device queue, told by its space, its direction and its address.
 #[derive(Clone, Copy, Debug, Default, Drop, PartialEq, Eq, PartialOrd, Ord)]
-pub struct QueueName {
-    pub space: Space,
-    pub write: bool,
-    pub address: u64,
+pub(crate) struct QueueName {
+    pub(crate) space: Space,
+    pub(crate) write: bool,
+    pub(crate) address: u64,
 }
 
 impl QueueName {
     ghost use Rattle.xe_scene.specs.Queues.{name_of, script_key};
 
     /// The queue of a space, a direction and an address.
-    pub fn new(space: Space, write: bool, address: u64) -> QueueName
+    pub(crate) fn new(space: Space, write: bool, address: u64) -> QueueName
         ensures { result ≡ name_of (script_key space write address) }
     {
         QueueName {
@@ -32,7 +32,7 @@ impl QueueName {
 
 /// The items of one queue, with room for those that are still to be fed.
 #[derive(Drop)]
-pub struct Queue {
+pub(crate) struct Queue {
     items: Vec<Item>,
     /// How many items were taken.
     next: usize,
@@ -54,7 +54,7 @@ impl Model for Queue {
 
 impl Queue {
     /// A queue without items and without room.
-    pub fn new(alloc: Global) -> Queue
+    pub(crate) fn new(alloc: Global) -> Queue
         ensures { result ≡ empty_queue }
     {
         Queue {
@@ -65,7 +65,7 @@ impl Queue {
     }
 
     /// Makes room for so many more items.
-    pub fn widen(&mut self, more: usize) -> Result<(), AllocError>
+    pub(crate) fn widen(&mut self, more: usize) -> Result<(), AllocError>
         ensures { OnOk result (self.new ≡ widened self.old more) }
     {
         // A sum past the range of lengths is more than memory holds.
@@ -76,7 +76,7 @@ impl Queue {
     }
 
     /// Appends items, into room that was made for them.
-    pub fn feed(&mut self, items: &[Item])
+    pub(crate) fn feed(&mut self, items: &[Item])
         requires { length items.now ≤ self.old.left }
         ensures { self.new ≡ filled self.old items.now }
     {
@@ -86,7 +86,7 @@ impl Queue {
     }
 
     /// Takes the first item, if there is one.
-    pub fn take(&mut self) -> Option<Item>
+    pub(crate) fn take(&mut self) -> Option<Item>
         ensures first { result ≡ slice_get self.old.waiting 0 }
         ensures rest { self.new ≡ without_first self.old }
     {

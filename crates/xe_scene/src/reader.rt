@@ -20,7 +20,7 @@ use xe_mem::{MAX_BYTES, MAX_REGIONS, Region};
 
 /// Why a line was not read.
 #[derive(Clone, Copy, Debug, Drop, PartialEq, Eq)]
-pub enum LineFault {
+pub(crate) enum LineFault {
     NoMemory,
     Bad(Reason),
 }
@@ -43,7 +43,7 @@ impl<T: Drop> From<AllocFailed<T>> for LineFault {
 
 /// The scene so far.
 #[derive(Drop)]
-pub struct Reader {
+pub(crate) struct Reader {
     regions: ArrayVec<Region, 16>,
     commands: Vec<Command>,
     /// The bytes of all regions.
@@ -119,7 +119,7 @@ fn has_queue(queues: &[QueueName], queue: &QueueName) -> bool
 }
 
 impl Reader {
-    pub fn new(alloc: Global) -> Reader
+    pub(crate) fn new(alloc: Global) -> Reader
         ensures { result ≡ record { regions = []; commands = [] } }
     {
         Reader {
@@ -204,7 +204,7 @@ impl Reader {
 
     /// Reads a line.
     #[tactic(auto, unfolding(crate::specs::Draft::line_says))]
-    pub fn line(&mut self, alloc: Global, line: &[u8]) -> Result<(), LineFault>
+    pub(crate) fn line(&mut self, alloc: Global, line: &[u8]) -> Result<(), LineFault>
         ensures { Puts result (spec.line_says self.old line.now) self.new }
     {
         if has_bad_byte(line) {
@@ -220,7 +220,7 @@ impl Reader {
         self.words(&words)
     }
 
-    pub fn into_scene(self) -> Scene
+    pub(crate) fn into_scene(self) -> Scene
         ensures draft { draft_of result ≡ self }
         ensures regions { IsLayout result.regions.items }
     {

@@ -18,7 +18,7 @@ use xe_mem::Region;
 
 /// What a line adds to the scene.
 #[derive(Drop)]
-pub enum Entry {
+pub(crate) enum Entry {
     Ram(Region),
     Obey(Command),
 }
@@ -308,7 +308,7 @@ fn said_by(late: bool, name: CommandName, words: &[&[u8]]) -> Result<Entry, Reas
 
 /// What a line of these words says; late tells that it is too late for RAM.
 #[tactic(auto, unfolding(crate::specs::Words::entry_of))]
-pub fn entry_of(late: bool, words: &[&[u8]]) -> Result<Entry, Reason>
+pub(crate) fn entry_of(late: bool, words: &[&[u8]]) -> Result<Entry, Reason>
     ensures value { result ≡ spec.entry_of late (map (λ w. w.now) words.now) }
     ensures formed { IfOk result IsFormedEntry }
 {
