@@ -1,4 +1,4 @@
--- What the commands of a scene are.
+-- What the commands of a scene are. This project's choice.
 use Rattle.std.specs.Prelude.{◌≤◌, All, vec_len}
 use Rattle.xe_scene.specs.declared.command.Commands.TheInside.{Inside}
 use Rattle.xe_scene.specs.Formed.{IsFormed}

@@ -1,4 +1,4 @@
--- What a reader keeps count of.
+-- What a reader keeps count of. This project's choice.
 use Rattle.std.specs.Prelude.{◌≡◌, ◌≤◌, All, length, sum_by, vec_len}
 use Rattle.xe_mem.specs.Layout.{IsLayout, end_behind, total}
 use Rattle.xe_scene.specs.declared.reader.Reader.TheInside.{Inside}

@@ -1,4 +1,4 @@
--- What the lines so far said, and what one line more says.
+-- What the lines so far said, and what one line more says. This project's choice.
 use Rattle.std.specs.Prelude.{ℕ, ◌+◌, ◌==◌, ◌||◌, not, nat_le, nat_lt, Bool, true, if◌then◌else◌, List, [], ◌∷◌, ◌++◌, length, Result, Ok, Err, sum_by}
 use Rattle.std.specs.List.{slice_split, list_any, fold}
 use Rattle.xe_mem.specs.declared.region.Region.{Region}

@@ -1,4 +1,4 @@
--- What the reader of a text answers.
+-- What the reader of a text answers. This project's choice.
 use Rattle.std.specs.Prelude.{◌≡◌, ℕ, Result, Ok, Err}
 use Rattle.xe_scene.specs.declared.command.Scene.{Scene}
 use Rattle.xe_scene.specs.declared.reader.LineFault.{LineFault}

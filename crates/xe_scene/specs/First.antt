@@ -1,4 +1,4 @@
--- The first bad line, as a relation.
+-- The first bad line, as a relation. This project's choice.
 use Rattle.std.specs.Prelude.{◌≡◌, ℕ, ◌+◌, List, ◌∷◌, ◌++◌, length, Ok, Err}
 use Rattle.xe_scene.specs.declared.reason.Reason.{Reason}
 use Rattle.xe_scene.specs.Draft.{Draft}

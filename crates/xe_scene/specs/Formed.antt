@@ -1,4 +1,4 @@
--- The ranges of a command's words.
+-- The ranges of a command's words. This project's choice.
 use Rattle.std.specs.Prelude.{◌≤◌, ◌<◌, All, IsTrue, length}
 use Rattle.xe_base.specs.Access.{is_msr}
 use Rattle.xe_base.specs.declared.access.Space.{Space}

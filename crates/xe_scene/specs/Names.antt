@@ -1,4 +1,4 @@
--- The names of commands, registers, spaces and directions.
+-- The names of commands, registers, spaces and directions. This project's choice.
 use Rattle.std.specs.Prelude.{ℕ, ◌||◌, Bool, if◌then◌else◌, List, Result, Ok, Err, codes}
 use Rattle.std.specs.Str.{bytes_eq}
 use Rattle.xe_base.specs.declared.access.Space.{Space}

@@ -1,4 +1,4 @@
--- What the reader of a line answers.
+-- What the reader of a line answers. This project's choice.
 use Rattle.std.specs.Prelude.{◌≡◌, List, [], ◌∷◌, ◌++◌, Option, Some, None, Result, Ok, Err}
 use Rattle.xe_scene.specs.declared.reason.Reason.{Reason}
 use Rattle.xe_scene.specs.declared.queue.QueueName.{QueueName}

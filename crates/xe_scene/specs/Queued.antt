@@ -1,4 +1,4 @@
--- What a device queue has.
+-- What a device queue has. This project's choice.
 use Rattle.std.specs.Prelude.{ℕ, ◌+◌, ◌-◌, List, [], ◌++◌, drop, length}
 use Rattle.xe_scene.specs.declared.command.Item.{Item}
 

@@ -1,4 +1,4 @@
--- The names of device queues.
+-- The names of device queues. This project's choice.
 use Rattle.std.specs.Prelude.{ℕ, Bool, true, false}
 use Rattle.xe_base.specs.declared.access.Space.{Space}
 use Rattle.xe_ctx.specs.Tape.{Key}

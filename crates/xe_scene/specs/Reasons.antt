@@ -1,4 +1,4 @@
--- The numbers of the reasons for which a line is refused.
+-- The numbers of the reasons for which a line is refused. This project's choice.
 use Rattle.std.specs.Prelude.{ℕ}
 use Rattle.xe_scene.specs.declared.reason.Reason.{Reason}
 use Rattle.xe_scene.specs.declared.reason.Reason.TheVariants.{Header, BadByte, LongLine, Spacing, UnknownCommand, WordCount, UnknownName, BadNumber, BadBytes, BadRegion, TooMuchRam, LateRam, TooMany, TooLong, NotBuilt}

@@ -1,4 +1,4 @@
--- What a script replies to one access.
+-- What a script replies to one access. This project's choice.
 use Rattle.std.specs.Prelude.{Option, Some, None}
 use Rattle.xe_base.specs.declared.access.Access.{Access}
 use Rattle.xe_base.specs.declared.access.Answer.{Answer}

@@ -1,4 +1,4 @@
--- The room that a scene's queues need.
+-- The room that a scene's queues need. This project's choice.
 use Rattle.std.specs.Prelude.{ℕ, if◌then◌else◌, List, length, sum_by}
 use Rattle.xe_ctx.specs.Tape.{Key, same_key}
 use Rattle.xe_scene.specs.declared.command.Command.{Command}

@@ -1,4 +1,4 @@
--- What a text says, or its first bad line.
+-- What a text says, or its first bad line. This project's choice.
 use Rattle.std.specs.Prelude.{ℕ, ◌+◌, ◌==◌, nat_lt, if◌then◌else◌, List, [], ◌∷◌, length, take, Result, Ok, Err, codes, Bool}
 use Rattle.std.specs.List.{slice_split, count_by}
 use Rattle.std.specs.Str.{bytes_eq}

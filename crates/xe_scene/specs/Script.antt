@@ -1,4 +1,4 @@
--- A scripted bus as the tape that it is.
+-- A scripted bus as the tape that it is. This project's choice.
 use Rattle.std.specs.Prelude.{ℕ, ◌-◌, List, map, length, if◌then◌else◌, Option, Some, None}
 use Rattle.std.specs.BTreeMap.{BTreeMap, get}
 use Rattle.xe_base.specs.Access.{is_msr}

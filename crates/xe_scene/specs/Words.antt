@@ -1,4 +1,4 @@
--- What the words of one line say, by themselves.
+-- What the words of one line say, by themselves. This project's choice.
 use Rattle.std.specs.Prelude.{ℕ, ◌==◌, ◌||◌, nat_lt, Bool, if◌then◌else◌, List, [], ◌∷◌, length, Option, Some, None, Result, Ok, Err, codes}
 use Rattle.std.specs.Str.{bytes_eq}
 use Rattle.xe_base.specs.Access.{is_msr}
