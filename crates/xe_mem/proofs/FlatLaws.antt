@@ -292,14 +292,3 @@ pub vec-put : (v : Vec ℕ Global) (xs ys : List ℕ) (a k : ℕ) → xs ≡ v.i
 vec-put v xs ys a k x l h e =
     let p = put-sets xs ys a k h e in
     with_items_is v _ (ap length p ∙ length-sets xs ys a ∙ l) ∙ p ∙ ap (λ zs. sets zs a ys) x
-
--- one byte, behind the fields of a guest memory
-module _ (rs : List Region) (bs : List ℕ) (ram : List Area) (whole : IsWhole rs bs) (view : areas_of rs bs ≡ ram) (pa : ℕ) (is : in_ram ram pa ≡ true) where
-  pub byte-fits : place rs pa < length bs
-  byte-fits = let l = place-lt ram pa is in rw (regions-view rs bs ram whole view, bytes-view rs bs ram whole view) at l
-
-  pub byte-view : byte_of ram pa ≡ get_or bs (place rs pa) 0
-  byte-view = let l = byte-place ram pa is in rw (regions-view rs bs ram whole view, bytes-view rs bs ram whole view) at l
-
-  pub put-view : (b : ℕ) → areas_of rs (set bs (place rs pa) b) ≡ put_byte ram pa b
-  put-view b = areas-view rs bs ram whole view (put_byte ram pa b) _ (regions-put ram pa b) (rw (all-put ram pa b is, regions-view rs bs ram whole view, bytes-view rs bs ram whole view) refl)

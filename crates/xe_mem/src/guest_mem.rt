@@ -1,7 +1,7 @@
 //! The RAM with its bytes.
 
-ghost use Rattle.std.specs.Prelude.{◌≡◌, ℕ, ◌+◌, ◌*◌, ◌-◌, ◌<◌, ◌≤◌, ◌↔◌, length, true, IsTrue, IsOk, IfOk, MatchResult, List};
-ghost use Rattle.xe_base.specs.Ram.{in_ram, AreRam, byte_of, bytes_of, put_byte, put_bytes};
+ghost use Rattle.std.specs.Prelude.{◌≡◌, ℕ, ◌+◌, ◌*◌, ◌-◌, ◌<◌, ◌≤◌, ◌↔◌, length, IsTrue, IsOk, IfOk, MatchResult, List};
+ghost use Rattle.xe_base.specs.Ram.{AreRam, bytes_of, put_bytes};
 ghost use Rattle.xe_mem.specs.Layout.{IsLayout, IsFirstBad, IsTooLarge, IsGap, regions_of, zeroed};
 ghost use Rattle.xe_mem.specs.Moves.{IsUnit, filled, copied_up, copied_down};
 
@@ -154,23 +154,5 @@ impl GuestMem {
         let to = position(self.regions.as_slice(), dst);
         let from = position(self.regions.as_slice(), src);
         move_down(&mut self.bytes, to, from, unit as usize, count as usize);
-    }
-
-    /// The byte at `pa`.
-    pub fn byte(&self, pa: u64) -> u8
-        requires { in_ram self.now pa ≡ true }
-        ensures { result ≡ byte_of self.now pa }
-    {
-        self.bytes[position(self.regions.as_slice(), pa)]
-    }
-
-    /// Writes the byte at `pa`.
-    pub fn set_byte(&mut self, pa: u64, byte: u8)
-        requires { in_ram self.old pa ≡ true }
-        ensures written { self.new ≡ put_byte self.old pa byte }
-        ensures same_regions { regions_of self.new ≡ regions_of self.old }
-    {
-        let at = position(self.regions.as_slice(), pa);
-        self.bytes[at] = byte;
     }
 }
