@@ -1,4 +1,5 @@
 use Rattle.std.specs.Prelude.{ℕ, ◌≡◌, ◌-◌, ◌≤◌, List, length, take, All, true, Option, Result, Ok, Err}
+use Rattle.std.specs.Borrow.{MutBor}
 use Rattle.arrayvec.specs.ArrayVec.{ArrayVec}
 use Rattle.xe_base.specs.Ram.{Area, in_ram}
 use Rattle.xe_base.specs.declared.cpu.Cpu.{Cpu}
@@ -13,6 +14,7 @@ use Rattle.xe_ctx.specs.Part.{begins}
 use Rattle.xe_ctx.specs.State.{State}
 use Rattle.xe_ctx.specs.Work.{patched}
 use Rattle.xe_ctx.specs.declared.ctx.Ctx.{Ctx}
+use Rattle.xe_ctx.specs.declared.machine.Machine.{Machine}
 use Rattle.xe_ctx.specs.declared.overlay.Cell.{Cell}
 
 -- a step over a bus that has done nothing yet
@@ -30,15 +32,29 @@ view sight hits ctx = record {
   bus = sight ctx.bus.now;
 }
 
+-- the step's reference to its machine, and to its bus
+abbrev pub machine_ref : {B I : Type 0} → Ctx B I → MutBor Machine
+machine_ref ctx = ctx.m
+
+abbrev pub bus_ref : {B I : Type 0} → Ctx B I → MutBor B
+bus_ref ctx = ctx.bus
+
+-- the same two, of what a step that has ended leaves behind
+abbrev pub machine_back : {M Rest : Type 0} → M × Rest → M
+machine_back left = left.0
+
+abbrev pub bus_back : {M I B Rest : Type 0} → M × (I × (B × Rest)) → B
+bus_back left = left.1.1.0
+
 -- the registers at the start of the step
 abbrev pub cpu_of : {B I : Type 0} → Ctx B I → Cpu
 cpu_of ctx = ctx.m.now.cpu
 
 -- the same machine, bus and intercepts; the step has not changed the machine
 pub record SameHandles {B I : Type 0} (old new : Ctx B I) : Type 0 where
-  pub machine : new.m.ghost_name ≡ old.m.ghost_name
-  pub machine_is : new.m.now ≡ old.m.now
-  pub bus : new.bus.ghost_name ≡ old.bus.ghost_name
+  pub machine : (machine_ref new).ghost_name ≡ (machine_ref old).ghost_name
+  pub machine_is : (machine_ref new).now ≡ (machine_ref old).now
+  pub bus : (bus_ref new).ghost_name ≡ (bus_ref old).ghost_name
   pub icpt : new.icpt.now ≡ old.icpt.now
 
 -- how many accesses the step may still make

@@ -10,7 +10,7 @@ ghost use Rattle.xe_ctx.specs.Is.{Is};
 ghost use Rattle.xe_ctx.specs.Machine.{state_of};
 ghost use Rattle.xe_ctx.specs.Part.{ask};
 ghost use Rattle.xe_ctx.specs.Tree.{device, point};
-ghost use Rattle.xe_ctx.specs.View.{view, opens, accepts, work_of, cpu_of, SameHandles, IsOpen, accesses_left, bytes_left, fetched_of};
+ghost use Rattle.xe_ctx.specs.View.{view, opens, accepts, work_of, cpu_of, machine_ref, bus_ref, machine_back, bus_back, SameHandles, IsOpen, accesses_left, bytes_left, fetched_of};
 
 use crate::bus::Bus;
 use crate::machine::Machine;
@@ -42,9 +42,9 @@ impl<'a, B: Bus, I: Intercepts> Ctx<'a, B, I> {
     #[tactic(auto, using(crate::proofs::Work::work_rules))]
     pub fn begin(m: &'a mut Machine, icpt: &'a I, bus: &'a mut B) -> Ctx<'a, B, I>
         requires { HasRoom (B.sight bus.old) 256 }
-        ensures machine { result.m.ghost_name ≡ m.entry.ghost_name }
-        ensures bus { result.bus.ghost_name ≡ bus.entry.ghost_name }
-        ensures machine_is { result.m.now ≡ m.old }
+        ensures machine { (machine_ref result).ghost_name ≡ m.entry.ghost_name }
+        ensures bus { (bus_ref result).ghost_name ≡ bus.entry.ghost_name }
+        ensures machine_is { (machine_ref result).now ≡ m.old }
         ensures start { view B.sight I.hits result ≡ opens (state_of m.old) (I.hits icpt.now) (B.sight bus.old) }
         ensures accesses { accesses_left result ≡ 256 }
         ensures bytes { bytes_left result ≡ 1024 }
@@ -82,7 +82,7 @@ impl<'a, B: Bus, I: Intercepts> Ctx<'a, B, I> {
     pub fn fetch(&mut self, i: u8) -> Result<u8, Stop>
         requires open { IsOpen B.sight self.old }
         requires small { i ≤ 14 }
-        ensures byte { result ≡ byte_at (avail (state_of self.old.m.now)) i }
+        ensures byte { result ≡ byte_at (avail (state_of (machine_ref self.old).now)) i }
         ensures fetched { OnOk result (i < fetched_of self.new) }
         ensures more { fetched_of self.old ≤ fetched_of self.new }
         ensures same { SameHandles self.old self.new }
@@ -154,8 +154,8 @@ impl<'a, B: Bus, I: Intercepts> Ctx<'a, B, I> {
     pub fn commit(self, cpu: Cpu)
         requires open { IsOpen B.sight self }
         requires valid { Valid cpu }
-        ensures bus { self.exit.1.1.0.now ≡ self.entry.bus.now }
-        ensures machine { state_of self.exit.0.now ≡ record { cpu = cpu; ram = work_of self.entry } }
+        ensures bus { (bus_back self.exit).now ≡ (bus_ref self.entry).now }
+        ensures machine { state_of (machine_back self.exit).now ≡ record { cpu = cpu; ram = work_of self.entry } }
     {
         let Ctx {
             m,
@@ -170,8 +170,8 @@ impl<'a, B: Bus, I: Intercepts> Ctx<'a, B, I> {
 
     /// The step is given up. The machine is as before it.
     pub fn end(self)
-        ensures bus { self.exit.1.1.0.now ≡ self.entry.bus.now }
-        ensures machine { self.exit.0.now ≡ self.entry.m.now }
+        ensures bus { (bus_back self.exit).now ≡ (bus_ref self.entry).now }
+        ensures machine { (machine_back self.exit).now ≡ (machine_ref self.entry).now }
     {
         let Ctx {
             m: _,
