@@ -22,6 +22,14 @@ module _ {T : Type 0} (P : T → Type 0) where
   each_any (handoff x) h = tt
   each_any (give x) h = h x
 
+  -- what holds of each value holds of them by what follows from it
+  pub each_implies : (Q : T → Type 0) → ((x : T) → P x → Q x) → (t : Tree T) → EachGives P t → EachGives Q t
+  each_implies Q f (asks r k) h = λ a. each_implies Q f (k a) (h a)
+  each_implies Q f (fault e) h = tt
+  each_implies Q f (event e) h = tt
+  each_implies Q f (handoff y) h = tt
+  each_implies Q f (give x) h = f x h
+
   -- one part after another
   pub each_then : {A : Type 0} (Q : A → Type 0) (m : Tree A) (f : A → Tree T) → EachGives Q m → ((x : A) → Q x → EachGives P (f x)) → EachGives P (m >>= f)
   unfolding ◌>>=◌

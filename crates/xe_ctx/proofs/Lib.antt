@@ -15,3 +15,4 @@ pub mod Locates
 pub mod Frames
 pub mod NextLaws
 pub mod FinishLaws
+pub mod Cover

@@ -1,4 +1,5 @@
-use Rattle.std.specs.Prelude.{ℕ, ◌≤◌, zero, suc, ◌+◌, ◌-◌, ◌%◌, List, [], ◌∷◌, ◌==◌, ◌&&◌, ◌||◌, Bool, nat_lt, if◌then◌else◌, IsTrue}
+use Rattle.std.specs.Prelude.{ℕ, ◌≤◌, zero, suc, ◌+◌, ◌-◌, ◌%◌, List, [], ◌∷◌, ◌==◌, ◌&&◌, ◌||◌, Bool, nat_lt, if◌then◌else◌, IsTrue, flat_map}
+use Rattle.std.specs.List.{range_with_len}
 use Rattle.xe_base.specs.Access.{is_size_in}
 use Rattle.xe_base.specs.declared.access.Space.TheVariants.{Mem}
 use Rattle.xe_ctx.specs.declared.chunk.Chunk.{Chunk}
@@ -37,3 +38,11 @@ is_size n = (n == 1) || ((n == 2) || ((n == 4) || ((n == 8) || (n == 16))))
 -- the most chunks of an access of a size
 abbrev pub most : ℕ → ℕ
 most n = if n == 1 then 1 else (if n == 2 then 2 else (if n == 4 then 3 else (if n == 8 then 4 else 5)))
+
+-- the addresses of the bytes of some chunks, one chunk after another
+abbrev pub addresses_of : List Chunk → List ℕ
+addresses_of cs = flat_map (λ (c : Chunk). range_with_len c.pa c.size) cs
+
+-- the places of these bytes in the access
+abbrev pub places_of : List Chunk → List ℕ
+places_of cs = flat_map (λ (c : Chunk). range_with_len c.at c.size) cs

@@ -1,4 +1,5 @@
-use Rattle.std.specs.Prelude.{ℕ, zero, suc, ◌+◌, ◌-◌, ◌%◌, ◌^◌, List, [], ◌∷◌, Bool, true, false, nat_le, if◌then◌else◌, take, drop, length, Result, Ok, Err}
+use Rattle.std.specs.Prelude.{ℕ, zero, suc, ◌+◌, ◌-◌, ◌%◌, ◌^◌, List, [], ◌∷◌, Bool, true, false, nat_le, if◌then◌else◌, take, drop, length, flat_map, ◌≡◌, ◌≤◌, Result, Ok, Err}
+use Rattle.std.specs.List.{range_with_len}
 use Rattle.xe_base.specs.Access.{number_of}
 use Rattle.xe_base.specs.Bytes.{num, le}
 use Rattle.xe_base.specs.Ram.{Area, in_ram, bytes_of, put_bytes}
@@ -66,6 +67,18 @@ pieces la n =
     if nat_le (la % 4096 + n) 4096
     then record { la = la; at = 0; n = n } ∷ []
     else record { la = la; at = 0; n = 4096 - la % 4096 } ∷ record { la = next_page la; at = 4096 - la % 4096; n = n - (4096 - la % 4096) } ∷ []
+
+-- the places of the bytes of some pieces in the access, one piece after another
+abbrev pub piece_places : List Piece → List ℕ
+piece_places ps = flat_map (λ (p : Piece). range_with_len p.at p.n) ps
+
+-- the piece lies in one page
+abbrev pub IsInPage : Piece → Type 0
+IsInPage p = p.la % 4096 + p.n ≤ 4096
+
+-- the piece is a part of the access that begins at this linear address
+abbrev pub IsPieceOf : ℕ → Piece → Type 0
+IsPieceOf la p = p.la ≡ (la + p.at) % 2 ^ 32
 
 -- the physical address of a linear one, to be written or read; without paging it is the same
 unfoldable pub place : Bool → ℕ → Part ℕ

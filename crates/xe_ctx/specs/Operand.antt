@@ -1,10 +1,8 @@
 use Rattle.std.specs.Prelude.{ℕ, Bool, true, false, ◌+◌, ◌*◌, ◌/◌, ◌%◌, ◌^◌, ◌<◌, ◌==◌, if◌then◌else◌, Option, Some, None}
-use Rattle.std.specs.Option.{ForSome}
 use Rattle.xe_base.specs.Registers.{next_rip, register_value, with_register}
 use Rattle.xe_base.specs.State.{code_size_of}
 use Rattle.xe_base.specs.declared.cpu.Cpu.{Cpu}
-use Rattle.xe_base.specs.declared.segment.SegName.{SegName}
-use Rattle.xe_modrm.specs.Address.{effective_offset, effective_segment, or_segment}
+use Rattle.xe_modrm.specs.Address.{effective_offset, effective_segment}
 use Rattle.xe_modrm.specs.declared.part.ModRm.{ModRm}
 use Rattle.xe_opmap.specs.Valid.{IsInsn}
 use Rattle.xe_opmap.specs.declared.insn.Insn.{Insn}

@@ -1,7 +1,9 @@
 //! Laws of the definitions, each the contract of a function that does nothing.
 
-ghost use Rattle.std.specs.Prelude.{◌≡◌, ◌<◌, ◌%◌, ℕ, Some, length, slice_index_or};
-ghost use Rattle.xe_ctx.specs.Chunks.{chunks, IsChunkSize};
+ghost use Rattle.std.specs.Prelude.{◌≡◌, ◌<◌, ◌≤◌, ◌%◌, ◌^◌, ℕ, Some, length, slice_index_or, All};
+ghost use Rattle.std.specs.List.{range_with_len};
+ghost use Rattle.xe_ctx.specs.Chunks.{chunks, IsChunkSize, addresses_of, places_of};
+ghost use Rattle.xe_ctx.specs.Memory.{pieces, piece_places, IsInPage, IsPieceOf};
 ghost use Rattle.xe_ctx.specs.Next.{by_next};
 ghost use Rattle.xe_ctx.specs.Part.{View, Ran};
 ghost use Rattle.xe_ctx.specs.Run.{run};
@@ -21,4 +23,21 @@ pub fn runs_by_its_next_request()
 pub fn chunks_are_aligned()
     ensures size { (pa n i : ℕ) (d : Chunk) → i < length (chunks pa n) → IsChunkSize (slice_index_or (chunks pa n) i d).size }
     ensures aligned { (pa n i : ℕ) (d : Chunk) → i < length (chunks pa n) → (slice_index_or (chunks pa n) i d).pa % (slice_index_or (chunks pa n) i d).size ≡ 0 }
+{}
+
+/// The chunks of an access are its bytes, one chunk after another: each byte once and in order, by
+/// its address and by its place in the access.
+#[tactic(auto, using(crate::proofs::Cover::chunk_addresses, crate::proofs::Cover::chunk_places))]
+pub fn chunks_cover_the_access()
+    ensures addresses { (pa n : ℕ) → addresses_of (chunks pa n) ≡ range_with_len pa n }
+    ensures places { (pa n : ℕ) → places_of (chunks pa n) ≡ range_with_len 0 n }
+{}
+
+/// The pieces of an access of at most 4096 bytes are its bytes, one piece after another: each byte
+/// once and in order. No piece crosses the end of a page, and each lies at its place behind the
+/// start of the access, where addresses wrap at 32 bits.
+pub fn pieces_cover_the_access()
+    ensures in_page { (la n : ℕ) → n ≤ 4096 → All IsInPage (pieces la n) }
+    ensures at_its_place { (la n : ℕ) → la < 2 ^ 32 → All (IsPieceOf la) (pieces la n) }
+    ensures places { (la n : ℕ) → piece_places (pieces la n) ≡ range_with_len 0 n }
 {}
