@@ -4,7 +4,7 @@ ghost use Rattle.xe_scene.specs.Reasons.{number_of};
 
 /// Why a line is bad, in the order of the numbers that are printed, from 1.
 #[derive(Clone, Copy, Debug, Drop, PartialEq, Eq)]
-pub(crate) enum Reason {
+pub enum Reason {
     Header,
     BadByte,
     LongLine,
@@ -24,7 +24,7 @@ pub(crate) enum Reason {
 
 impl Reason {
     /// The number that is printed.
-    pub(crate) fn number(self) -> u8
+    pub fn number(self) -> u8
         ensures { result ≡ number_of self }
     {
         match self {
