@@ -15,6 +15,7 @@ use Rattle.xe_ctx.specs.declared.operand.Operand.{Operand}
 use Rattle.xe_ctx.specs.declared.operand.Operand.TheVariants.{Register, Memory}
 use Rattle.xe_ctx.specs.declared.stop.Finish.{Finish}
 use Rattle.xe_ctx.proofs.FinishLaws.{each_any, each_then}
+use Rattle.xe_arith.specs.Plain.{EndsPlainly}
 
 -- the registers differ in the general ones at most, and in the flags that an instruction may change
 pub record Tame (old new : Cpu) : Type 0 where
@@ -56,22 +57,25 @@ pointer_in true db rip len h = cc
 pointer_in false true rip len h = omega arith
 pointer_in false false rip len h = omega arith
 
-pub sound_end : (insn : Insn) (cpu after : Cpu) → Valid cpu → Tame cpu after → IsSound (ends_with insn after)
-sound_end insn cpu after valid t =
+pub plain_end : (insn : Insn) (cpu after : Cpu) → Tame cpu after → EndsPlainly insn cpu (ends_with insn after)
+plain_end insn cpu after t =
     let made : Cpu = record cpu { gpr = after.gpr; rip = next_rip after insn.len; rflags = after.rflags } in
     let rest : record after { rip = next_rip after insn.len } ≡ made = ap (λ (c : Cpu). record c { rip = next_rip after insn.len }) t.rest in
     let same : next_rip after insn.len ≡ next_rip (record cpu { gpr = after.gpr; rflags = after.rflags }) insn.len = ap (λ (c : Cpu). next_rip c insn.len) t.rest in
     let pointer : is_long cpu ≡ false → next_rip after insn.len < 2 ^ 32 = (λ h. rw same (pointer_in (is_long cpu) (seg_db cpu.cs) _ insn.len h)) in
-    let calm : Calm cpu (record after { rip = next_rip after insn.len }) = record { rest = rest; flags = t.flags; pointer = pointer } in
-    record { valid = calm_keeps_valid cpu _ valid calm; retire = omega arith }
+    record { calm = record { rest = rest; flags = t.flags; pointer = pointer }; next = same; more = refl; retire = refl }
+
+-- from a valid state it leads to a valid one
+pub plain_sound : (insn : Insn) (cpu : Cpu) → Valid cpu → (f : Finish) → EndsPlainly insn cpu f → IsSound f
+plain_sound insn cpu valid f e = let r = e.retire in record { valid = calm_keeps_valid cpu f.cpu valid e.calm; retire = omega arith }
 
 -- what does nothing but ask, and then goes on
 pub asked_then : {A B : Type 0} (P : B → Type 0) (m : Tree A) (f : A → Tree B) → ((x : A) → EachGives P (f x)) → EachGives P (m >>= f)
 asked_then P m f h = each_then P (λ x. Unit {0}) m f (each_any _ m (λ x. tt)) (λ x u. h x)
 
 -- the last of a row: an operand is written, and the instruction ends
-pub written_end : (insn : Insn) (old cpu : Cpu) (operand : Operand) (n value : ℕ) → Valid old → Tame old cpu → EachGives IsSound (write_operand insn cpu operand n value >>= (λ after. ends insn after))
-written_end insn old cpu operand n value valid t = each_then IsSound (Tame old) (write_operand insn cpu operand n value) _ (tame_operand insn old cpu operand n value t) (λ after s. sound_end insn old after valid s)
+pub written_end : (insn : Insn) (old cpu : Cpu) (operand : Operand) (n value : ℕ) → Tame old cpu → EachGives (EndsPlainly insn old) (write_operand insn cpu operand n value >>= (λ after. ends insn after))
+written_end insn old cpu operand n value t = each_then (EndsPlainly insn old) (Tame old) (write_operand insn cpu operand n value) _ (tame_operand insn old cpu operand n value t) (λ after s. plain_end insn old after s)
 
 -- a choice
 pub each_if : {A : Type 0} (P : A → Type 0) (c : Bool) (a b : Tree A) → EachGives P a → EachGives P b → EachGives P (if c then a else b)

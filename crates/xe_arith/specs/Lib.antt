@@ -12,3 +12,4 @@ pub mod Decimal
 pub mod Bit
 pub mod Exchange
 pub mod Rows
+pub mod Plain

@@ -6,11 +6,20 @@ ghost use Rattle.xe_base.specs.declared.cpu.Cpu.{Cpu};
 ghost use Rattle.xe_opmap.specs.declared.insn.Insn.{Insn};
 ghost use Rattle.xe_ctx.specs.Finishes.{EachGives, IsSound};
 ghost use Rattle.xe_ctx.specs.Operand.{IsOf};
+ghost use Rattle.xe_arith.specs.Plain.{EndsPlainly};
 ghost use Rattle.xe_arith.specs.Rows.{is_row, row_of};
 
+/// Each instruction of this crate's rows that finishes has changed general registers, the instruction
+/// pointer and flags alone, and of the flags only those that an instruction may change, whatever memory
+/// and devices answer. The next instruction is the one behind it, none of it is left to be done, and
+/// its retirement brings nothing with it.
+#[tactic(auto, using(crate::proofs::CalmRows::rows_plain))]
+pub fn rows_change_states_calmly()
+    ensures { (insn : Insn) → (cpu : Cpu) → is_row insn.row ≡ true → EachGives (EndsPlainly insn cpu) (row_of insn cpu) }
+{}
+
 /// From a valid state each instruction of this crate's rows finishes in a valid state, whatever memory
-/// and devices answer: it changes general registers, the instruction pointer and flags alone, and of
-/// the flags only those that an instruction may change.
+/// and devices answer, and its retirement brings with it less than the bit of a single step.
 #[tactic(auto, using(crate::proofs::CalmRows::rows_sound))]
 pub fn rows_keep_states_valid()
     ensures { (insn : Insn) → (cpu : Cpu) → is_row insn.row ≡ true → IsOf cpu insn → Valid cpu → EachGives IsSound (row_of insn cpu) }

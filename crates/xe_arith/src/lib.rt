@@ -22,5 +22,5 @@ mod source;
 mod tests;
 mod unary;
 
-pub use laws::rows_keep_states_valid;
+pub use laws::{rows_change_states_calmly, rows_keep_states_valid};
 pub use rows::{exec, is_row};

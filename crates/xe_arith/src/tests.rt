@@ -2,7 +2,7 @@
 
 ghost use Rattle.std.specs.Prelude.{◌≤◌, length, None};
 
-use crate::{exec, is_row, rows_keep_states_valid};
+use crate::{exec, is_row, rows_change_states_calmly, rows_keep_states_valid};
 use std::alloc::Global;
 use std::process::Abort;
 use std::test::Fail;
@@ -57,6 +57,7 @@ fn after(alloc: Global, cpu: Cpu, bytes: &[u8]) -> Option<Cpu>
 
 #[test]
 fn runs_instructions(rt: HostRuntime) {
+    rows_change_states_calmly();
     rows_keep_states_valid();
     let mut cpu = Cpu::reset();
     cpu.gpr[0] = 0x1234;
