@@ -1,4 +1,5 @@
 pub mod Told
+pub mod Memory
 pub mod Changes
 pub mod Shown
 pub mod Text

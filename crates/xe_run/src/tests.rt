@@ -41,8 +41,7 @@ fn ran(
         numbers(alloc, failing_writes)?,
     );
     let status = run(alloc, &words, &mut src, &mut out);
-    let VecSink { bytes, .. } = out;
-    Ok((status, bytes, src.calls))
+    Ok((status, out.into_bytes(), src.calls()))
 }
 
 #[test]
@@ -199,9 +198,10 @@ fn tells_a_failed_write(rt: HostRuntime) -> Result<(), Fail> {
 fn runs_over_a_reader_and_a_writer(rt: HostRuntime) -> Result<(), Fail> {
     let alloc = rt.alloc();
     let mut src = ReaderSource::new(Cursor::new(PORT_READ.as_bytes()));
-    let mut out = VecSink::new(Vec::with_capacity(alloc, 1024)?, Vec::new(alloc));
+    let mut bytes = Vec::new(alloc);
+    let mut out = WriterSink::new(&mut bytes);
     let status = run(alloc, &words(alloc, "run")?, &mut src, &mut out);
     assert_eq!(rt; status.number(), 0);
-    assert_eq!(rt; out.bytes.as_slice(), TRACE);
+    assert_eq!(rt; bytes.as_slice(), TRACE);
     Ok(())
 }
