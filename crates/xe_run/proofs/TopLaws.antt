@@ -50,12 +50,12 @@ within_of_all most text rest bounded ended =
       | inl lt ↦ too_long most text rest lt
     ]
 
-pub scene_of_all : (text rest : List ℕ) → length text ≤ 1048577 → (length text < 1048577 → rest ≡ []) → scene (text ++ rest) ≡ scene text
+pub scene_of_all : (text rest : List ℕ) → length text ≤ text_most + 1 → (length text < text_most + 1 → rest ≡ []) → scene (text ++ rest) ≡ scene text
 scene_of_all text rest bounded ended = within_of_all text_most text rest bounded ended
 
 -- what holds of the scene of what was read holds of the scene of all that was left
 pub all_of : (P : Result Draft Bad → Type 0) (left rest : Option (List ℕ)) (text now : List ℕ) → now ≡ text → left ≡ preceded_by text rest
-    → length text ≤ 1048577 → (length text < 1048577 → IfSome rest (λ r. r ≡ [])) → P (scene now) → IfSome left (λ all. P (scene all))
+    → length text ≤ text_most + 1 → (length text < text_most + 1 → IfSome rest (λ r. r ≡ [])) → P (scene now) → IfSome left (λ all. P (scene all))
 all_of P left None text now same taken bounded ended h = rw taken tt
 all_of P left (Some r) text now same taken bounded ended h = rw taken (subst P (ap scene same ∙ sym (scene_of_all text r bounded ended)) h)
 
@@ -67,25 +67,25 @@ rest_of most text rest bounded ended =
       | inr le ↦ (let e : most ≡ length text = omega arith in ap (λ (k : ℕ). drop k (text ++ rest)) e ∙ drop-append_seam text rest)
     ]
 
-pub left_over : (left rest : Option (List ℕ)) (text : List ℕ) → left ≡ preceded_by text rest → length text ≤ 1048577 → (length text < 1048577 → IfSome rest (λ r. r ≡ []))
-    → IfSome left (λ l. rest ≡ Some (drop 1048577 l))
+pub left_over : (left rest : Option (List ℕ)) (text : List ℕ) → left ≡ preceded_by text rest → length text ≤ text_most + 1 → (length text < text_most + 1 → IfSome rest (λ r. r ≡ []))
+    → IfSome left (λ l. rest ≡ Some (drop (text_most + 1) l))
 left_over left None text taken bounded ended = rw taken tt
-left_over left (Some r) text taken bounded ended = rw taken (ap (λ (x : List ℕ). Some x) (sym (rest_of 1048577 text r bounded ended)))
+left_over left (Some r) text taken bounded ended = rw taken (ap (λ (x : List ℕ). Some x) (sym (rest_of (text_most + 1) text r bounded ended)))
 
 -- a text that is accepted isn't too long
-accepted_short : (mode : Mode) (l : List ℕ) (b : Bool) → ltb text_most (length l) ≡ b → (answer mode (scene l)).status ≡ status.Ok → drop 1048577 l ≡ []
+accepted_short : (mode : Mode) (l : List ℕ) (b : Bool) → ltb text_most (length l) ≡ b → (answer mode (scene l)).status ≡ status.Ok → drop (text_most + 1) l ≡ []
 unfolding scene_within
 accepted_short mode l true e h = absurd (not_ok (ap (λ (x : Bool). (answer mode (if x then Err (bad_line (1 + count_by is_newline (take text_most l)) TooLong) else lines_say 0 nothing (lines_of l))).status) (sym e) ∙ h))
-accepted_short mode l false e h = drop_all 1048577 l (omega (arith, within_false text_most (length l) e))
+accepted_short mode l false e h = drop_all (text_most + 1) l (omega (arith, within_false text_most (length l) e))
 
-pub reads_all : (mode : Mode) (left rest : Option (List ℕ)) (r : Status) (old new : Option (List ℕ)) → IfSome left (λ l. rest ≡ Some (drop 1048577 l))
+pub reads_all : (mode : Mode) (left rest : Option (List ℕ)) (r : Status) (old new : Option (List ℕ)) → IfSome left (λ l. rest ≡ Some (drop (text_most + 1) l))
     → IfSome left (λ l. Answers r (answer mode (scene l)) old new) → IfSome left (λ l. r ≡ status.Ok → rest ≡ Some [])
 reads_all mode None rest r old new e h = tt
 reads_all mode (Some l) rest r old new e h = λ ok.
     let a : Answers status.Ok (answer mode (scene l)) old new = subst (λ (s : Status). Answers s (answer mode (scene l)) old new) ok h in
     e ∙ ap (λ (x : List ℕ). Some x) (accepted_short mode l (ltb text_most (length l)) refl a.1)
 
-pub reads_enough : (left rest : Option (List ℕ)) (r : Status) → IfSome left (λ l. rest ≡ Some (drop 1048577 l)) → IfSome left (λ l. r ≡ status.Refused → rest ≡ Some (drop 1048577 l))
+pub reads_enough : (left rest : Option (List ℕ)) (r : Status) → IfSome left (λ l. rest ≡ Some (drop (text_most + 1) l)) → IfSome left (λ l. r ≡ status.Refused → rest ≡ Some (drop (text_most + 1) l))
 reads_enough None rest r e = tt
 reads_enough (Some l) rest r e = λ refused. e
 

@@ -1,5 +1,6 @@
 //! The loop that reads a whole text.
 ghost use Rattle.std.specs.Prelude.{◌≡◌, ℕ, ◌+◌, ◌<◌, ◌≤◌, [], length, Err, IfOk, IfSome, OnOk, OnErr, vec_len};
+ghost use Rattle.xe_scene.specs.Scene.{text_most};
 ghost use Rattle.xe_run.specs.Told.{preceded_by, is_told, Rose};
 ghost use Rattle.xe_run.specs.declared.reading.ReadError.TheVariants.{Fault, NoMemory};
 
@@ -7,14 +8,14 @@ use crate::outside::{Failed, Source};
 use std::alloc::{AllocError, Global};
 
 /// The bytes that are read at most: one more than a scenario text may have.
-pub const READ_LIMIT: usize = 1_048_577;
+const READ_LIMIT: usize = 1_048_577;
 
 /// The bytes that are asked for at once.
 const PIECE: usize = 4096;
 
 /// Why a text wasn't read.
 #[derive(Clone, Copy, Debug, PartialEq, Eq)]
-pub enum ReadError {
+pub(crate) enum ReadError {
     Fault,
     NoMemory,
 }
@@ -35,12 +36,12 @@ impl From<Failed> for ReadError {
     }
 }
 
-/// Reads to the end, or until `READ_LIMIT` bytes were taken. Each turn takes at least one byte or
-/// meets the end.
-pub fn read_text<S: Source>(alloc: Global, src: &mut S) -> Result<Vec<u8>, ReadError>
+/// Reads to the end, or until one byte more was taken than a scenario text may have. Each turn takes
+/// at least one byte or meets the end.
+pub(crate) fn read_text<S: Source>(alloc: Global, src: &mut S) -> Result<Vec<u8>, ReadError>
     ensures taken { IfOk result (λ text. S.left src.old ≡ preceded_by text.items (S.left src.new)) }
-    ensures bounded { IfOk result (λ text. vec_len text ≤ READ_LIMIT) }
-    ensures ended { IfOk result (λ text. vec_len text < READ_LIMIT → IfSome (S.left src.new) (λ rest. rest ≡ [])) }
+    ensures bounded { IfOk result (λ text. vec_len text ≤ text_most + 1) }
+    ensures ended { IfOk result (λ text. vec_len text < text_most + 1 → IfSome (S.left src.new) (λ rest. rest ≡ [])) }
     ensures told { is_told (S.left src.new) ≡ is_told (S.left src.old) }
     ensures count { S.faults src.old ≤ S.faults src.new }
     ensures fault { result ≡ Err ReadError.Fault → Rose (S.faults src.old) (S.faults src.new) }

@@ -1,8 +1,8 @@
 //! The top call: from words and a text to what is written and a status.
-ghost use Rattle.std.specs.Prelude.{◌≡◌, ◌≢◌, ◌≤◌, ◌⊎◌, List, [], map, drop, string_bytes, Option, Some, None, Ok, IfSome, IsSome};
+ghost use Rattle.std.specs.Prelude.{◌≡◌, ◌≢◌, ◌+◌, ◌≤◌, ◌⊎◌, List, [], map, drop, string_bytes, Option, Some, None, Ok, IfSome, IsSome};
 ghost use Rattle.std.specs.Result.{IsErr};
 ghost use Rattle.xe_mem.specs.Layout.{IsLayout};
-ghost use Rattle.xe_scene.specs.Scene.{scene};
+ghost use Rattle.xe_scene.specs.Scene.{scene, text_most};
 ghost use Rattle.xe_scene.specs.Faults.{draft_of};
 ghost use Rattle.xe_run.specs.Told.{followed_by, is_told, Rose, Quiet};
 ghost use Rattle.xe_run.specs.Output.{Output, Answers, answer, output, mode_of, usage, IsWhole};
@@ -11,7 +11,7 @@ use crate::driving::{DriveFault, drive};
 use crate::event::refusal_line;
 use crate::mode::{Mode, mode_of};
 use crate::outside::{Sink, Source};
-use crate::reading::{READ_LIMIT, ReadError, read_text};
+use crate::reading::{ReadError, read_text};
 use crate::status::Status;
 use std::alloc::Global;
 use xe_scene::{Scene, SceneFault, read_scene};
@@ -77,7 +77,7 @@ fn answer_source<S: Source, K: Sink>(alloc: Global, mode: Mode, src: &mut S, out
     ensures read_fault_writes_nothing { result ≡ Status.ReadFault → K.written out.new ≡ K.written out.old }
     ensures no_memory_writes_nothing { result ≡ Status.NoMemory → K.written out.new ≡ K.written out.old }
     ensures reads_all { IfSome (S.left src.old) (λ left. result ≡ Status.Ok → S.left src.new ≡ Some []) }
-    ensures reads_enough { IfSome (S.left src.old) (λ left. result ≡ Status.Refused → S.left src.new ≡ Some (drop READ_LIMIT left)) }
+    ensures reads_enough { IfSome (S.left src.old) (λ left. result ≡ Status.Refused → S.left src.new ≡ Some (drop (text_most + 1) left)) }
     ensures source_told { is_told (S.left src.new) ≡ is_told (S.left src.old) }
     ensures sink_told { is_told (K.written out.new) ≡ is_told (K.written out.old) }
     ensures source_count { S.faults src.old ≤ S.faults src.new }
@@ -130,9 +130,10 @@ pub fn run<S: Source, K: Sink>(
     ensures write_fault { result ≡ Status.WriteFault → Rose (K.faults out.old) (K.faults out.new) }
     ensures no_memory_writes_nothing { result ≡ Status.NoMemory → K.written out.new ≡ K.written out.old }
 
-    // An accepted text was read to its end, a refused one too, unless it is longer than a text may be.
+    // An accepted text was read to its end, a refused one too, unless it is longer than a text may be: then one byte more
+    // was taken than that.
     ensures reads_all { IfSome (S.left src.old) (λ left. result ≡ Status.Ok → S.left src.new ≡ Some []) }
-    ensures reads_enough { IfSome (S.left src.old) (λ left. result ≡ Status.Refused → S.left src.new ≡ Some (drop READ_LIMIT left)) }
+    ensures reads_enough { IfSome (S.left src.old) (λ left. result ≡ Status.Refused → S.left src.new ≡ Some (drop (text_most + 1) left)) }
 
     ensures source_told { is_told (S.left src.new) ≡ is_told (S.left src.old) }
     ensures sink_told { is_told (K.written out.new) ≡ is_told (K.written out.old) }
