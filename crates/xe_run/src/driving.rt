@@ -14,7 +14,7 @@ use xe_scene::Scene;
 
 /// Why a scene wasn't driven to its end.
 #[derive(Clone, Copy, Debug, Drop, PartialEq, Eq)]
-pub enum DriveFault {
+pub(crate) enum DriveFault {
     /// Memory was refused; nothing was written.
     NoMemory,
     /// A write failed.

@@ -15,7 +15,7 @@ use xe_scene::{DtName, SegReg};
 
 /// What a run shows: one line of the trace.
 #[derive(Drop)]
-pub enum Event {
+pub(crate) enum Event {
     /// A device access was answered, after so many replies of "not yet".
     Io {
         made: Made,
@@ -400,7 +400,7 @@ fn not_ram_line(pa: u64) -> Line
 }
 
 /// The line of an event.
-pub fn line_of(event: &Event) -> Line
+pub(crate) fn line_of(event: &Event) -> Line
     ensures { result ≡ spec.line_of event.now }
 {
     match event {
@@ -459,7 +459,7 @@ fn reason_text(reason: u8) -> &'static [u8]
 
 /// The line of a scenario text that is refused.
 #[tactic(auto, unfolding(crate::specs::Text::refusal_text))]
-pub fn refusal_line(number: u32, reason: u8) -> Line
+pub(crate) fn refusal_line(number: u32, reason: u8) -> Line
     ensures { result ≡ spec.refusal_text number reason }
 {
     let mut line = Line::new();

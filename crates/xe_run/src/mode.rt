@@ -4,7 +4,7 @@ ghost use Rattle.xe_run.specs.Output as spec;
 
 /// What is done with a text.
 #[derive(Clone, Copy, Debug, Drop, PartialEq, Eq)]
-pub enum Mode {
+pub(crate) enum Mode {
     /// The scene is run, and its trace written.
     Run,
     /// The text is read, and nothing is run.
