@@ -1,4 +1,4 @@
-use Rattle.std.proofs.Common.{ℕ, ◌≡◌, Bool, true, false, not, ◌==◌, ◌&&◌, ◌*◌, ◌-◌, ◌^◌, refl, sym, ap, ◌∙◌, bit_and, bit_or, Option, Some, None}
+use Rattle.std.proofs.Common.{ℕ, ◌≡◌, Bool, true, false, not, ◌==◌, ◌&&◌, ◌-◌, ◌^◌, refl, ◌∙◌, bit_and, Option, Some, None}
 use Rattle.std.proofs.lemmas.Nat.{and_or_apart, and_assoc}
 use Rattle.xe_base.specs.Calm.{fixed_flags}
 use Rattle.xe_base.specs.State.{Valid}
@@ -7,17 +7,11 @@ use Rattle.xe_opmap.specs.declared.insn.Insn.{Insn}
 use Rattle.xe_opmap.specs.declared.row.Row.{Row}
 use Rattle.xe_opmap.specs.declared.row.Row.TheVariants as row
 use Rattle.xe_flags.specs.declared.arithmetic.AluOp.{AluOp}
-use Rattle.xe_flags.specs.declared.arithmetic.AluOp.TheVariants as AluOp
 use Rattle.xe_flags.specs.declared.one_operand.UnOp.{UnOp}
-use Rattle.xe_flags.specs.declared.one_operand.UnOp.TheVariants as UnOp
 use Rattle.xe_flags.specs.declared.shifts.ShiftOp.{ShiftOp}
-use Rattle.xe_flags.specs.declared.shifts.ShiftOp.TheVariants as ShiftOp
 use Rattle.xe_flags.specs.declared.decimals.BcdOp.{BcdOp}
-use Rattle.xe_flags.specs.declared.decimals.BcdOp.TheVariants as BcdOp
 use Rattle.xe_flags.specs.declared.bits.BitOp.{BitOp}
-use Rattle.xe_flags.specs.declared.bits.BitOp.TheVariants as BitOp
 use Rattle.xe_flags.specs.declared.scans.ScanOp.{ScanOp}
-use Rattle.xe_flags.specs.declared.scans.ScanOp.TheVariants as ScanOp
 use Rattle.xe_flags.specs.Status.{at_place}
 use Rattle.xe_flags.proofs.FlagSet.{fixed_written, fixed_unary, fixed_shift, fixed_double}
 use Rattle.xe_ctx.specs.Finishes.{EachGives, IsSound}

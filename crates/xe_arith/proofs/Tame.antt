@@ -1,16 +1,14 @@
-use Rattle.std.proofs.Common.{ℕ, ◌≡◌, ◌<◌, ◌-◌, ◌^◌, ◌+◌, ◌%◌, Bool, true, false, ◌&&◌, refl, sym, ap, ◌∙◌, subst, arith, if◌then◌else◌, bit_and, bit_or, List, slice_index, slice_set}
-use Rattle.std.proofs.lemmas.Bool.{cases_Bool}
-use Rattle.std.proofs.lemmas.Nat.{and_or_apart, and_assoc}
-use Rattle.xe_base.specs.Calm.{Calm, fixed_flags}
+use Rattle.std.proofs.Common.{ℕ, ◌≡◌, ◌<◌, ◌-◌, ◌^◌, Bool, true, false, refl, ap, ◌∙◌, arith, if◌then◌else◌, List, slice_index, slice_set}
+use Rattle.xe_base.specs.Calm.{fixed_flags}
 use Rattle.xe_base.specs.Registers.{is_long, next_rip, rip_after, is_high_byte, with_high_byte, written, with_register}
-use Rattle.xe_base.specs.State.{Valid, code_size_of, seg_db}
+use Rattle.xe_base.specs.State.{Valid, seg_db}
 use Rattle.xe_base.specs.declared.cpu.CodeSize.TheVariants.{B16, B32, B64}
 use Rattle.xe_base.specs.declared.cpu.Cpu.{Cpu}
 use Rattle.xe_base.proofs.CalmLaws.{calm_keeps_valid}
 use Rattle.xe_opmap.specs.declared.insn.Insn.{Insn}
 use Rattle.xe_ctx.specs.Finishes.{EachGives, IsSound}
-use Rattle.xe_ctx.specs.Operand.{writes, write_operand, ends_with, ends}
-use Rattle.xe_ctx.specs.Tree.{Tree, ◌>>=◌, give, store}
+use Rattle.xe_ctx.specs.Operand.{write_operand, ends_with, ends}
+use Rattle.xe_ctx.specs.Tree.{Tree, ◌>>=◌, store}
 use Rattle.xe_ctx.specs.declared.operand.Operand.{Operand}
 use Rattle.xe_ctx.specs.declared.operand.Operand.TheVariants.{Register, Memory}
 use Rattle.xe_ctx.specs.declared.stop.Finish.{Finish}

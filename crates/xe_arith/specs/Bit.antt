@@ -1,4 +1,4 @@
-use Rattle.std.specs.Prelude.{ℕ, ◌*◌, ◌%◌, ◌^◌, ◌==◌, pos, ◌+ℤ◌, ◌*ℤ◌, ℤ, Option, Some, None, if◌then◌else◌}
+use Rattle.std.specs.Prelude.{ℕ, ◌*◌, ◌%◌, ◌==◌, pos, ◌+ℤ◌, ◌*ℤ◌, ℤ, Option, Some, None, if◌then◌else◌}
 use Rattle.xe_base.specs.Words.{signed, wrapped}
 use Rattle.xe_base.specs.declared.cpu.Cpu.{Cpu}
 use Rattle.xe_opmap.specs.declared.insn.Insn.{Insn}

@@ -1,4 +1,4 @@
-use Rattle.std.specs.Prelude.{ℕ, Bool, ◌%◌, if◌then◌else◌}
+use Rattle.std.specs.Prelude.{Bool, ◌%◌, if◌then◌else◌}
 use Rattle.std.specs.Int.{from_bool}
 use Rattle.xe_base.specs.declared.cpu.Cpu.{Cpu}
 use Rattle.xe_opmap.specs.declared.insn.Insn.{Insn}

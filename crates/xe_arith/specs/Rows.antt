@@ -1,5 +1,4 @@
 use Rattle.std.specs.Prelude.{Bool, true, false, ◌||◌, None}
-use Rattle.xe_base.specs.declared.access.Fault.{Fault}
 use Rattle.xe_base.specs.declared.cpu.Cpu.{Cpu}
 use Rattle.xe_opmap.specs.declared.insn.Insn.{Insn}
 use Rattle.xe_opmap.specs.declared.row.Row.{Row}
