@@ -6,7 +6,7 @@ ghost use Rattle.xe_ctx.specs.Machine.{state_of};
 ghost use Rattle.xe_scene.specs.Formed.{IsFormed, IsItemFor};
 ghost use Rattle.xe_scene.specs.Script.{tape_of, with_device};
 ghost use Rattle.xe_run.specs.Told.{Rose, Writes};
-ghost use Rattle.xe_run.specs.Text.{text};
+ghost use Rattle.xe_run.specs.Text.{text, line_of};
 ghost use Rattle.xe_run.specs.Drive as spec;
 ghost use Rattle.xe_run.specs.Driver.{world, HasRoomFor, HasRoomOf, SameRoom, Feeds};
 ghost use Rattle.xe_run.specs.Turn.{reported_events, IsTold};
@@ -176,6 +176,18 @@ impl Driver {
         self.draft = *self.machine.cpu();
     }
 
+    /// Gives up a draft that is refused, and shows the rule that it breaks.
+    fn refuse<K: Sink>(&mut self, rule: u8, out: &mut K) -> Result<(), Failed>
+        ensures after { world self.new ≡ spec.redrafted (world self.old) }
+        ensures writes { Writes result (K.written out.old) (line_of (Event.BadState rule)) (K.written out.new) }
+        ensures room { SameRoom self.old self.new }
+        ensures count { K.faults out.old ≤ K.faults out.new }
+        ensures failed { OnErr result (Rose (K.faults out.old) (K.faults out.new)) }
+    {
+        self.redraft();
+        print(&Event::BadState(rule), out)
+    }
+
     /// Installs the draft and runs so many steps.
     fn run<K: Sink>(&mut self, steps: u64, out: &mut K) -> Result<(), Failed>
         ensures after { OnOk result (world self.new ≡ (spec.run_command steps (world self.old)).after) }
@@ -190,10 +202,7 @@ impl Driver {
                 self.redraft();
                 Ok(())
             }
-            Err(bad) => {
-                self.redraft();
-                print(&Event::BadState(bad.rule), out)
-            }
+            Err(bad) => self.refuse(bad.rule, out),
         }
     }
 
@@ -221,10 +230,7 @@ impl Driver {
     {
         match self.machine.set_cpu(self.draft) {
             Ok(()) => print_all(&shown(&self.draft), out),
-            Err(bad) => {
-                self.redraft();
-                print(&Event::BadState(bad.rule), out)
-            }
+            Err(bad) => self.refuse(bad.rule, out),
         }
     }
 

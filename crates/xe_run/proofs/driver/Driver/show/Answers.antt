@@ -27,10 +27,10 @@ returns-in-Err-clause-after g c =
     let w = world c.args.self.now in
     let stays = ap (λ (m : State). record w { machine = m }) c.in-Err.ensures.err in
     let did = show-broken w c.in-Err.bad.rule (answered_err _ _ c.in-Err.ensures.answer) in
-    on_ok _ _ (c.redraft.ensures.after ∙ ap redrafted stays ∙ sym (ap (λ (d : Did). d.after) did))
+    on_ok _ _ (c.refuse.ensures.after ∙ ap redrafted stays ∙ sym (ap (λ (d : Did). d.after) did))
 
 pub returns-in-Err-clause-writes : goal.returns-in-Err-clause-writes
 returns-in-Err-clause-writes g c =
     let did = show-broken (world c.args.self.now) c.in-Err.bad.rule (answered_err _ _ c.in-Err.ensures.answer) in
     let one : text (show_command (world c.args.self.now)).events ≡ line_of (BadState c.in-Err.bad.rule) = ap (λ (d : Did). text d.events) did ∙ text-one (BadState c.in-Err.bad.rule) in
-    rw one c.print.ensures.writes
+    rw one c.refuse.ensures.writes
