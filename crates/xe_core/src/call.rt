@@ -47,7 +47,6 @@ fn accesses_of<B: Bus, I: Intercepts>(ctx: &Ctx<B, I>) -> ArrayVec<Made, 256>
 }
 
 /// The report of a step that finished.
-#[inline(never)]
 fn finished<B: Bus, I: Intercepts>(row: Row, more: bool, retire: u8, ctx: &Ctx<B, I>) -> Report
     ensures { result ≡ record { row = Some row; finished = Some row; elements = 1; accesses = record { items = (view B.sight I.hits ctx.now).step.made }; outcome = Done more retire } }
 {
@@ -61,7 +60,6 @@ fn finished<B: Bus, I: Intercepts>(row: Row, more: bool, retire: u8, ctx: &Ctx<B
 }
 
 /// The report of a step that its instruction didn't finish.
-#[inline(never)]
 fn stopped<B: Bus, I: Intercepts>(row: Row, outcome: Outcome, ctx: &Ctx<B, I>) -> Report
     ensures { result ≡ record { row = Some row; finished = None; elements = 0; accesses = record { items = (view B.sight I.hits ctx.now).step.made }; outcome = outcome } }
 {

@@ -6,9 +6,10 @@ ghost use Rattle.xe_run.specs.declared.reading.ReadError.TheVariants.{Fault, NoM
 
 use crate::outside::{Failed, Source};
 use std::alloc::{AllocError, Global};
+use xe_scene::TEXT_MOST;
 
 /// The bytes that are read at most: one more than a scenario text may have.
-const READ_LIMIT: usize = 1_048_577;
+const READ_LIMIT: usize = TEXT_MOST + 1;
 
 /// The bytes that are asked for at once.
 const PIECE: usize = 4096;

@@ -13,7 +13,7 @@ mod script_bus;
 mod words;
 
 pub use command::{Command, Commands, Dir, DtName, Item, RegName, Scene, SegReg};
-pub use reading::{SceneFault, read_scene};
+pub use reading::{SceneFault, TEXT_MOST, read_scene};
 pub use script_bus::ScriptBus;
 
 #[cfg(test)]

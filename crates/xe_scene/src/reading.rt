@@ -13,7 +13,7 @@ use std::alloc::Global;
 use thiserror::Error;
 
 /// The bytes that a text has at most.
-const TEXT_MOST: usize = 1_048_576;
+pub const TEXT_MOST: usize = 1_048_576;
 
 /// Why a text gives no scene.
 #[derive(Debug, Drop, Error)]
