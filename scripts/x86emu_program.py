@@ -9,13 +9,13 @@ PROGRAM = os.path.join(CRATE, "out", "x86emu")
 
 
 def newest_source():
-    """The time of the last change of a source file of any crate."""
+    """The time of the last change of the code, the definitions or the proofs of any crate."""
     newest = 0.0
     for folder, _, files in os.walk(os.path.join(ROOT, "crates")):
         if os.path.basename(folder) == "out" or f"{os.sep}out{os.sep}" in folder:
             continue
         for name in files:
-            if name.endswith(".rt"):
+            if name.endswith((".rt", ".antt")):
                 newest = max(newest, os.path.getmtime(os.path.join(folder, name)))
     return newest
 
