@@ -1,7 +1,7 @@
 use Rattle.std.proofs.Common.{ℕ, ◌≡◌, ◌<◌, ◌-◌, ◌^◌, Bool, true, false, refl, ap, ◌∙◌, arith, if◌then◌else◌, List, slice_index, slice_set}
 use Rattle.xe_base.specs.Calm.{fixed_flags}
-use Rattle.xe_base.specs.Registers.{is_long, next_rip, rip_after, is_high_byte, with_high_byte, written, with_register}
-use Rattle.xe_base.specs.State.{Valid, seg_db}
+use Rattle.xe_base.specs.Registers.{next_rip, rip_after, is_high_byte, with_high_byte, written, with_register}
+use Rattle.xe_base.specs.State.{Valid, is_long, seg_db}
 use Rattle.xe_base.specs.declared.cpu.CodeSize.TheVariants.{B16, B32, B64}
 use Rattle.xe_base.specs.declared.cpu.Cpu.{Cpu}
 use Rattle.xe_base.proofs.CalmLaws.{calm_keeps_valid}

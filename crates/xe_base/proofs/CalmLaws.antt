@@ -6,7 +6,7 @@ use Rattle.std.proofs.lemmas.Bool.{cases_Bool}
 use Rattle.std.proofs.lemmas.Bool.Decides.{nat_tests}
 use Rattle.xe_base.specs.Bits.{bit, only}
 use Rattle.xe_base.specs.Calm.{fixed_flags, CalmKeepsValid}
-use Rattle.xe_base.specs.Registers.{is_long}
+use Rattle.xe_base.specs.State.{is_long}
 use Rattle.xe_base.specs.State.{Valid, broken, flags_are_valid, pointer_is_valid, cr0_is_valid, cr4_is_valid, efer_is_valid, paging_is_valid, segments_are_valid, level_is_valid, code_is_valid, is_unprotected}
 use Rattle.xe_base.specs.declared.cpu.Cpu.{Cpu}
 

@@ -1,6 +1,5 @@
 use Rattle.std.specs.Prelude.{ℕ, ◌≡◌, ◌<◌, ◌-◌, ◌^◌, false, bit_and}
-use Rattle.xe_base.specs.Registers.{is_long}
-use Rattle.xe_base.specs.State.{Valid}
+use Rattle.xe_base.specs.State.{Valid, is_long}
 use Rattle.xe_base.specs.declared.cpu.Cpu.{Cpu}
 
 -- the bits of the flags that no rule allows to change: all but CF, PF, AF, ZF, SF, TF, IF, DF, OF, IOPL, NT, AC and ID

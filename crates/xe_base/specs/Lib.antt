@@ -3,6 +3,7 @@ pub mod Bits
 pub mod Access
 pub mod State
 pub mod Reset
+pub mod Exceptions
 pub mod Registers
 pub mod Ram
 pub mod Bytes

@@ -5,7 +5,7 @@ use Rattle.xe_base.specs.declared.cpu.CodeSize.TheVariants.{B16, B32, B64}
 use Rattle.xe_base.specs.declared.segment.Seg.{Seg}
 use Rattle.xe_base.specs.declared.segment.SegName.{SegName}
 use Rattle.xe_base.specs.declared.segment.SegName.TheVariants.{Es, Cs, Ss, Ds, Fs, Gs}
-use Rattle.xe_base.specs.State.{code_size_of, lma, seg_l}
+use Rattle.xe_base.specs.State.{code_size_of, is_long}
 
 -- the segment register of a name
 abbrev pub segment : Cpu → SegName → Seg
@@ -54,9 +54,6 @@ with_high_byte old new = old - old / 2 ^ 8 % 2 ^ 8 * 2 ^ 8 + new % 2 ^ 8 * 2 ^ 8
 -- what a register holds after a write: writes of 8 and 16 bits keep the rest; one of 32 bits clears bits 63:32 in 64-bit mode and keeps them elsewhere
 abbrev pub written : Bool → ℕ → ℕ → ℕ → ℕ
 written is_long size old new = if size == 4 && is_long then new % 2 ^ 32 else with_low (8 * size) old new
-
-abbrev pub is_long : Cpu → Bool
-is_long cpu = lma cpu && seg_l cpu.cs
 
 -- the registers with one of them written
 unfoldable pub with_register : Cpu → ℕ → Bool → ℕ → ℕ → Cpu

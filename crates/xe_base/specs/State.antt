@@ -38,15 +38,37 @@ needs a b = not a || b
 
 -- ---- modes (SDM volume 3, "Modes of Operation")
 
+-- 64-bit mode: long mode is active, and the code segment is one of 64-bit code
+abbrev pub is_long : Cpu → Bool
+is_long cpu = lma cpu && seg_l cpu.cs
+
 abbrev pub mode_of : Cpu → Mode
 mode_of cpu = if lma cpu then (if seg_l cpu.cs then Long else Compat) else (if pe cpu then Protected else Real)
 
 abbrev pub code_size_of : Cpu → CodeSize
-code_size_of cpu = if lma cpu && seg_l cpu.cs then B64 else (if seg_db cpu.cs then B32 else B16)
+code_size_of cpu = if is_long cpu then B64 else (if seg_db cpu.cs then B32 else B16)
 
--- a linear address of 48 bits
-abbrev pub is_canonical : ℕ → Bool
-is_canonical x = canonical 48 x
+-- ---- widths of linear addresses (SDM volume 1, "Canonical Addressing")
+
+-- in how many bits linear addresses wrap: those of accesses through segments outside 64-bit mode have 32
+abbrev pub address_bits : Cpu → ℕ
+address_bits cpu = if is_long cpu then 64 else 32
+
+-- how many bits of a linear address are translated in long mode: 48, with page tables of four levels
+abbrev pub linear_bits : Cpu → ℕ
+linear_bits cpu = 48
+
+-- an address that long mode can translate
+abbrev pub is_canonical : Cpu → ℕ → Bool
+is_canonical cpu x = canonical (linear_bits cpu) x
+
+-- how many bits the bases of segments and tables have
+abbrev pub base_bits : Cpu → ℕ
+base_bits cpu = 48
+
+-- a base that a register can hold
+abbrev pub is_base : Cpu → ℕ → Bool
+is_base cpu x = canonical (base_bits cpu) x
 
 -- ---- the rules of a valid state
 
@@ -86,8 +108,8 @@ low_bases_are_valid cpu = is_low_base cpu.es && is_low_base cpu.cs && is_low_bas
 
 abbrev pub bases_are_canonical : Cpu → Bool
 bases_are_canonical cpu =
-    is_canonical cpu.fs.base && is_canonical cpu.gs.base && is_canonical cpu.ldtr.base && is_canonical cpu.tr.base
-    && is_canonical cpu.gdtr.base && is_canonical cpu.idtr.base && is_canonical cpu.kgs
+    is_base cpu cpu.fs.base && is_base cpu cpu.gs.base && is_base cpu cpu.ldtr.base && is_base cpu cpu.tr.base
+    && is_base cpu cpu.gdtr.base && is_base cpu cpu.idtr.base && is_base cpu cpu.kgs
 
 abbrev pub segments_are_valid : Cpu → Bool
 segments_are_valid cpu = attrs_are_valid cpu && low_bases_are_valid cpu && bases_are_canonical cpu
@@ -98,11 +120,11 @@ level_is_valid cpu = nat_le cpu.cpl 3 && needs (not (pe cpu)) (cpu.cpl == 0)
 
 -- 64-bit code has no DB
 abbrev pub code_is_valid : Cpu → Bool
-code_is_valid cpu = needs (lma cpu && seg_l cpu.cs) (not (seg_db cpu.cs))
+code_is_valid cpu = needs (is_long cpu) (not (seg_db cpu.cs))
 
 -- outside 64-bit code the instruction pointer has 32 bits
 abbrev pub pointer_is_valid : Cpu → Bool
-pointer_is_valid cpu = (lma cpu && seg_l cpu.cs) || nat_lt cpu.rip (2 ^ 32)
+pointer_is_valid cpu = is_long cpu || nat_lt cpu.rip (2 ^ 32)
 
 -- in force until protected mode runs: PE is 0
 abbrev pub is_unprotected : Cpu → Bool

@@ -4,7 +4,8 @@ ghost use Rattle.std.specs.Prelude.{◌≡◌, ◌<◌};
 ghost use Rattle.xe_base.specs.State.{mode_of, code_size_of, broken, answer_of};
 ghost use Rattle.xe_base.specs.State.{flags_are_valid, cr0_is_valid, cr4_is_valid, efer_is_valid, paging_is_valid};
 ghost use Rattle.xe_base.specs.State.{attrs_are_valid, low_bases_are_valid, bases_are_canonical, segments_are_valid, level_is_valid, code_is_valid, pointer_is_valid};
-ghost use Rattle.xe_base.specs.State.{pe, pg, lme, lma, is_canonical, attr_is_valid, is_low_base};
+ghost use Rattle.xe_base.specs.State.{pe, pg, lme, lma, attr_is_valid, is_low_base, is_long, address_bits, is_canonical, is_base};
+ghost use Rattle.xe_base.specs.Bits.{canonical};
 ghost use Rattle.xe_base.specs.Bits.{bit, only};
 ghost use Rattle.xe_base.specs.Reset.{reset_state};
 ghost use Rattle.xe_base.specs.Registers.{segment, next_rip, rip_after};
@@ -96,9 +97,9 @@ fn bit(x: u64, at: u32) -> bool
     (x >> at) & 1 == 1
 }
 
-/// Whether the bits 63 to 47 of a linear address are equal (SDM volume 1, "Canonical Addressing").
-pub fn is_canonical(address: u64) -> bool
-    ensures { result ≡ is_canonical address }
+/// Whether the bits 63 to 47 of a number are equal (SDM volume 1, "Canonical Addressing").
+fn is_canonical_of_48(address: u64) -> bool
+    ensures { result ≡ canonical 48 address }
 {
     let high = address >> 47;
     high == 0 || high == 0x1FFFF
@@ -207,11 +208,41 @@ impl Cpu {
         }
     }
 
+    /// Whether the processor is in 64-bit mode.
+    pub fn is_long(&self) -> bool
+        ensures { result ≡ is_long self.now }
+    {
+        self.lma() && self.cs.l()
+    }
+
+    /// In how many bits the linear addresses of accesses through segments wrap: 64 in 64-bit mode,
+    /// elsewhere 32.
+    pub fn address_bits(&self) -> u32
+        ensures { result ≡ address_bits self.now }
+    {
+        if self.is_long() { 64 } else { 32 }
+    }
+
+    /// Whether long mode can translate a linear address: the bits that page tables don't look at
+    /// equal the highest that they do (SDM volume 1, "Canonical Addressing").
+    pub fn is_canonical(&self, address: u64) -> bool
+        ensures { result ≡ is_canonical self.now address }
+    {
+        is_canonical_of_48(address)
+    }
+
+    /// Whether a base register can hold the number: it is canonical in the width of bases.
+    pub fn is_base(&self, base: u64) -> bool
+        ensures { result ≡ is_base self.now base }
+    {
+        is_canonical_of_48(base)
+    }
+
     /// The size of the code that runs.
     pub fn code_size(&self) -> CodeSize
         ensures { result ≡ code_size_of self.now }
     {
-        if self.lma() && self.cs.l() {
+        if self.is_long() {
             CodeSize::B64
         } else if self.cs.db() {
             CodeSize::B32
@@ -244,6 +275,13 @@ impl Cpu {
             CodeSize::B64 => next,
             CodeSize::B32 | CodeSize::B16 => next & 0xFFFF_FFFF,
         }
+    }
+
+    /// RIP goes behind an instruction of so many bytes.
+    pub fn advance(&mut self, len: u8)
+        ensures { self.new ≡ record self.old { rip = next_rip self.old len } }
+    {
+        self.rip = self.next_rip(len);
     }
 
     /// Answers the first rule of a valid state that is broken, where one is.
@@ -341,13 +379,13 @@ impl Cpu {
     fn bases_are_canonical(&self) -> bool
         ensures { result ≡ bases_are_canonical self.now }
     {
-        is_canonical(self.fs.base)
-            && is_canonical(self.gs.base)
-            && is_canonical(self.ldtr.base)
-            && is_canonical(self.tr.base)
-            && is_canonical(self.gdtr.base)
-            && is_canonical(self.idtr.base)
-            && is_canonical(self.kgs)
+        self.is_base(self.fs.base)
+            && self.is_base(self.gs.base)
+            && self.is_base(self.ldtr.base)
+            && self.is_base(self.tr.base)
+            && self.is_base(self.gdtr.base)
+            && self.is_base(self.idtr.base)
+            && self.is_base(self.kgs)
     }
 
     /// Attributes of twelve bits, and bases of the registers' widths.
@@ -368,13 +406,13 @@ impl Cpu {
     fn code_is_valid(&self) -> bool
         ensures { result ≡ code_is_valid self.now }
     {
-        !(self.lma() && self.cs.l()) || !self.cs.db()
+        !self.is_long() || !self.cs.db()
     }
 
     /// Outside 64-bit code RIP has 32 bits.
     fn pointer_is_valid(&self) -> bool
         ensures { result ≡ pointer_is_valid self.now }
     {
-        (self.lma() && self.cs.l()) || self.rip < 1 << 32
+        self.is_long() || self.rip < 1 << 32
     }
 }

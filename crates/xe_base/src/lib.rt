@@ -10,7 +10,7 @@ pub mod segment;
 pub mod word;
 
 pub use access::{Access, Answer, Fault, Made, NoMemory, Space};
-pub use cpu::{BadState, CodeSize, Cpu, Mode, is_canonical};
+pub use cpu::{BadState, CodeSize, Cpu, Mode};
 pub use segment::{Seg, SegName, Table};
 pub use word::Word;
 

@@ -1,7 +1,8 @@
 //! The general registers at the widths that an instruction reads and writes.
 
 ghost use Rattle.std.specs.Prelude.{◌≡◌, ◌<◌, ◌≤◌, ◌^◌, ◌*◌, ◌%◌, IsTrue};
-ghost use Rattle.xe_base.specs.Registers.{is_high_byte, register_value, with_low, with_high_byte, written, with_register, is_long, is_size};
+ghost use Rattle.xe_base.specs.Registers.{is_high_byte, register_value, with_low, with_high_byte, written, with_register, is_size};
+ghost use Rattle.xe_base.specs.State.{is_long};
 
 use crate::cpu::Cpu;
 
@@ -41,13 +42,6 @@ fn with_high_byte(old: u64, value: u64) -> u64
 }
 
 impl Cpu {
-    /// Whether the processor is in 64-bit mode.
-    pub fn is_long(&self) -> bool
-        ensures { result ≡ is_long self.now }
-    {
-        self.lma() && self.cs.l()
-    }
-
     /// The number in a general register, at a width of 1, 2, 4 or 8 bytes (SDM volume 1,
     /// "General-Purpose Registers"): without REX the numbers 4 to 7 of a byte register are AH, CH, DH and BH.
     #[tactic(auto, unfolding(crate::specs::Registers::register_value))]
@@ -63,24 +57,33 @@ impl Cpu {
         }
     }
 
-    /// The registers with one general register written at a width of 1, 2, 4 or 8 bytes. Writes of
-    /// 8 and 16 bits keep the rest of the register; one of 32 bits clears its upper half in 64-bit mode
-    /// and keeps it elsewhere (SDM volume 1, "General-Purpose Registers in 64-Bit Mode"; elsewhere this
-    /// project's choice).
+    /// Writes a general register at a width of 1, 2, 4 or 8 bytes. Writes of 8 and 16 bits keep the
+    /// rest of the register; one of 32 bits clears its upper half in 64-bit mode and keeps it
+    /// elsewhere (SDM volume 1, "General-Purpose Registers in 64-Bit Mode"; elsewhere this project's
+    /// choice).
     #[tactic(auto, unfolding(crate::specs::Registers::with_register))]
+    pub fn set_register(&mut self, size: u8, has_rex: bool, index: u8, value: u64)
+        requires size { IsTrue (is_size size) }
+        requires index { index < 16 }
+        ensures { self.new ≡ with_register self.old size has_rex index value }
+    {
+        if is_high_byte(size, has_rex, index) {
+            let old = self.gpr[index as usize - 4];
+            self.gpr[index as usize - 4] = with_high_byte(old, value);
+        } else {
+            let old = self.gpr[index as usize];
+            self.gpr[index as usize] = self.written(size, old, value);
+        }
+    }
+
+    /// The registers with one general register written, as by [`Cpu::set_register`].
     pub fn with_register(&self, size: u8, has_rex: bool, index: u8, value: u64) -> Cpu
         requires size { IsTrue (is_size size) }
         requires index { index < 16 }
         ensures { result ≡ with_register self.now size has_rex index value }
     {
         let mut cpu = *self;
-        if is_high_byte(size, has_rex, index) {
-            let old = self.gpr[index as usize - 4];
-            cpu.gpr[index as usize - 4] = with_high_byte(old, value);
-        } else {
-            let old = self.gpr[index as usize];
-            cpu.gpr[index as usize] = self.written(size, old, value);
-        }
+        cpu.set_register(size, has_rex, index, value);
         cpu
     }
 

@@ -1,7 +1,8 @@
 //! What no clause says: that the rules and the numbers are the ones that were meant.
 
 use crate::{
-    Access, Answer, BadState, CodeSize, Cpu, Made, Mode, Seg, SegName, Space, Word, is_canonical,
+    Access, Answer, BadState, CodeSize, Cpu, Fault, GENERAL_PROTECTION, Made, Mode, Seg, SegName,
+    Space, Word,
 };
 use std::test::Fail;
 
@@ -101,7 +102,23 @@ fn tells_the_mode(rt: HostRuntime) -> Result<(), Fail> {
         1
     );
     assert_eq!(rt; start.segment(SegName::Cs).attr, 0x9B);
-    assert!(rt; is_canonical(0xFFFF_8000_0000_0000) & !is_canonical(0x8000_0000_0000));
+    assert!(rt; start.is_canonical(0xFFFF_8000_0000_0000) & !start.is_canonical(0x8000_0000_0000));
+    assert!(rt; start.is_base(0x7FFF_FFFF_FFFF) & !start.is_base(1 << 63));
+    assert_eq!(rt; start.address_bits(), 32);
+    assert!(rt; !start.is_long());
+    let mut written = start;
+    written.set_register(2, false, 0, 0x1_2345);
+    written.advance(2);
+    assert_eq!(rt; written.gpr[0], 0x2345);
+    assert_eq!(rt; written.rip, 2);
+    assert_eq!(rt;
+        Fault::with_code(Mode::Real, GENERAL_PROTECTION, 8),
+        Fault::plain(13)
+    );
+    assert_eq!(rt;
+        Fault::with_code(Mode::Long, GENERAL_PROTECTION, 8).code,
+        Some(8)
+    );
     Ok(())
 }
 
@@ -110,7 +127,8 @@ fn cuts_words(rt: HostRuntime) -> Result<(), Fail> {
     let byte: Word<8> = Word::new(0x1FF);
     assert_eq!(rt; byte.get(), 0xFF);
     assert_eq!(rt; byte.signed(), -1);
-    assert_eq!(rt; Made::default().answer, Answer::No);
+    assert_eq!(rt; Made::default().answer.number(), 0);
+    assert_eq!(rt; Answer::No.number(), 0);
     assert_eq!(rt; Access::default().space, Space::Mem);
     Ok(())
 }
