@@ -9,7 +9,10 @@ pub mod register;
 pub mod segment;
 pub mod word;
 
-pub use access::{Access, Answer, Fault, Made, NoMemory, Space};
+pub use access::{
+    Access, Answer, DIVIDE_ERROR, Fault, GENERAL_PROTECTION, INVALID_OPCODE, Made, NoMemory,
+    PAGE_FAULT, SEGMENT_NOT_PRESENT, STACK_FAULT, Space,
+};
 pub use cpu::{BadState, CodeSize, Cpu, Mode};
 pub use segment::{Seg, SegName, Table};
 pub use word::Word;
