@@ -4,6 +4,7 @@ use Rattle.bitflags.specs.Sets.{find_row}
 use Rattle.xe_icpt.specs.Points.{IsControl}
 use Rattle.xe_icpt.specs.SvmNames.{svm_bit, svm_code}
 use Rattle.std.proofs.Common.{false, Some, None, bit_and}
+use Rattle.std.specs.Option.{option_map}
 use Rattle.xe_icpt.specs.declared.point.Point.{Point}
 use Rattle.xe_icpt.specs.SvmSet.{digit, Svm, has_name, svm_name, svm_asks, svm_exit, svm_hit}
 
@@ -23,16 +24,17 @@ each-control P n h p0 p2 p3 p4 p8 = elim (or_cases _ _ h) [
   | inr e ↦ subst P (sym (eqb-true n 8 e)) p8
 ]
 
-pub code-read : (n : ℕ) → IsControl n → n ≡ svm_code (codes "read_cr" ++ digit n)
+pub code-read : (n : ℕ) → IsControl n → svm_code (codes "read_cr" ++ digit n) ≡ Some n
 unfolding svm_code find_row
-code-read n h = each-control (λ n. n ≡ svm_code (codes "read_cr" ++ digit n)) n h refl refl refl refl refl
+code-read n h = each-control (λ n. svm_code (codes "read_cr" ++ digit n) ≡ Some n) n h refl refl refl refl refl
 
-pub code-write : (n : ℕ) → IsControl n → 16 + n ≡ svm_code (codes "write_cr" ++ digit n)
+pub code-write : (n : ℕ) → IsControl n → svm_code (codes "write_cr" ++ digit n) ≡ Some (16 + n)
 unfolding svm_code find_row
-code-write n h = each-control (λ n. 16 + n ≡ svm_code (codes "write_cr" ++ digit n)) n h refl refl refl refl refl
+code-write n h = each-control (λ n. svm_code (codes "write_cr" ++ digit n) ≡ Some (16 + n)) n h refl refl refl refl refl
 
-pub eight : (n : ℕ) → IsControl n → (n ≡ 0 → ⊥) → (n ≡ 2 → ⊥) → (n ≡ 3 → ⊥) → (n ≡ 4 → ⊥) → n ≡ 8
-eight n h a b c d = each-control (λ n. (n ≡ 0 → ⊥) → (n ≡ 2 → ⊥) → (n ≡ 3 → ⊥) → (n ≡ 4 → ⊥) → n ≡ 8) n h (λ a b c d. absurd (a refl)) (λ a b c d. absurd (b refl)) (λ a b c d. absurd (c refl)) (λ a b c d. absurd (d refl)) (λ a b c d. refl) a b c d
+-- there is no control register but these five
+pub no-other : (n : ℕ) → IsControl n → (n ≡ 0 → ⊥) → (n ≡ 2 → ⊥) → (n ≡ 3 → ⊥) → (n ≡ 4 → ⊥) → (n ≡ 8 → ⊥) → ⊥
+no-other n h a b c d e = each-control (λ n. (n ≡ 0 → ⊥) → (n ≡ 2 → ⊥) → (n ≡ 3 → ⊥) → (n ≡ 4 → ⊥) → (n ≡ 8 → ⊥) → ⊥) n h (λ a b c d e. a refl) (λ a b c d e. b refl) (λ a b c d e. c refl) (λ a b c d e. d refl) (λ a b c d e. e refl) a b c d e
 
 -- The exit of a set at a point, by its three cases.
 
@@ -44,10 +46,10 @@ pub hit-unasked : (set : Svm) (p : Point) → has_name set (svm_bit (svm_name p)
 unfolding svm_hit
 hit-unasked set p h a = rw (h, a) refl
 
-pub hit-taken : (set : Svm) (p : Point) → has_name set (svm_bit (svm_name p)) ≡ true → svm_asks set p ≡ true → svm_hit set p ≡ Some (svm_exit p)
+pub hit-taken : (set : Svm) (p : Point) → has_name set (svm_bit (svm_name p)) ≡ true → svm_asks set p ≡ true → svm_hit set p ≡ option_map (svm_exit p) (svm_code (svm_name p))
 unfolding svm_hit
 hit-taken set p h a = rw (h, a) refl
 
--- the test of a name, by the bits of the code
-pub name-test : (set : Svm) (p : Point) (names bits : ℕ) → names ≡ set.names → bits ≡ svm_bit (svm_name p) → has_name set (svm_bit (svm_name p)) ≡ (bit_and names bits == bits)
+-- the test of a name, by its bits
+pub name-test : (set : Svm) (p : Point) (names bits : ℕ) → names ≡ set.names → svm_bit (svm_name p) ≡ Some bits → has_name set (svm_bit (svm_name p)) ≡ (bit_and names bits == bits)
 name-test set p names bits a b = rw (a, b) refl

@@ -1,3 +1,5 @@
 pub mod Points
+pub mod Ports
+pub mod PortBitmap
 pub mod SvmNames
 pub mod SvmSet

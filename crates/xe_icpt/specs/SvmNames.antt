@@ -1,4 +1,4 @@
-use Rattle.std.specs.Prelude.{ℕ, ◌*◌, List, [], ◌∷◌, codes, unwrap_or}
+use Rattle.std.specs.Prelude.{ℕ, ◌*◌, List, [], ◌∷◌, codes, Option}
 use Rattle.bitflags.specs.Sets.{find_name}
 
 -- the names of the SVM intercepts with their exit codes (AMD64 APM volume 2, appendix "SVM Intercept Exit Codes"; the names are this project's)
@@ -46,9 +46,9 @@ with_bits bit (row ∷ rows) = (row.0, bit) ∷ with_bits (2 * bit) rows
 abbrev pub svm_table : List (List ℕ × ℕ)
 svm_table = with_bits 1 svm_codes
 
--- the bit of a name, and its exit code
-unfoldable pub svm_bit : List ℕ → ℕ
-svm_bit name = unwrap_or (find_name svm_table name) 0
+-- the bit of a name, and its exit code; what is no name has neither
+unfoldable pub svm_bit : List ℕ → Option ℕ
+svm_bit name = find_name svm_table name
 
-unfoldable pub svm_code : List ℕ → ℕ
-svm_code name = unwrap_or (find_name svm_codes name) 0
+unfoldable pub svm_code : List ℕ → Option ℕ
+svm_code name = find_name svm_codes name

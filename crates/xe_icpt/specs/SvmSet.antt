@@ -1,7 +1,9 @@
-use Rattle.std.specs.Prelude.{ℕ, zero, suc, ◌+◌, ◌*◌, ◌/◌, ◌%◌, ◌==◌, List, [], ◌∷◌, ◌++◌, Bool, true, false, ◌&&◌, ◌||◌, codes, Option, Some, None, if◌then◌else◌, slice_index}
+use Rattle.std.specs.Prelude.{ℕ, ◌+◌, ◌*◌, ◌==◌, List, [], ◌∷◌, ◌++◌, Bool, true, false, ◌&&◌, codes, refl, Option, Some, None, if◌then◌else◌}
 use Rattle.std.specs.List.{list_any}
-use Rattle.std.specs.Int.{bit_at}
+use Rattle.std.specs.Option.{option_map}
 use Rattle.std.specs.Int.RustNames.{bit_and}
+use Rattle.std.specs.Coded.{Coded, code_by, coded×, coded_ℕ, coded_bool, coded_list}
+use Rattle.std.specs.FinSet.{code}
 use Rattle.xe_icpt.specs.declared.exit.Exit.{Exit}
 use Rattle.xe_icpt.specs.declared.svm_name.SvmName.{SvmName}
 use Rattle.xe_icpt.specs.declared.svm_set.MsrPair.{MsrPair}
@@ -9,30 +11,30 @@ use Rattle.xe_icpt.specs.declared.point.TableName.{TableName}
 use Rattle.xe_icpt.specs.declared.point.TableName.TheVariants.{Idtr, Gdtr, Ldtr, Tr}
 use Rattle.xe_icpt.specs.declared.point.Point.{Point}
 use Rattle.xe_icpt.specs.declared.point.Point.TheVariants.{CrRead, CrWrite, Cr0Sel, TableRead, TableWrite, Rdtsc, Pushf, Popf, Cpuid, Iret, Swint, Invd, Pause, Hlt, Invlpg, Io, Msr, Wbinvd}
+use Rattle.xe_icpt.specs.Ports.{Ports, has_one_of}
 use Rattle.xe_icpt.specs.SvmNames.{svm_bit, svm_code}
 
--- what a set of SVM intercepts holds: the bits of its names, a bitmap of 65,536 ports in words of 64 bits, and pairs of an MSR and a direction
+-- what a set of SVM intercepts holds: the bits of its names, a set of ports, and pairs of an MSR and a direction
 pub record Svm : Type 0 where
   pub names : ℕ
-  pub ports : List ℕ
+  pub ports : Ports
   pub msrs : List MsrPair
+
+-- how proofs tell two of them apart: a pair is stored as its fields, and so is what a set holds
+abbrev pub pair_stored : Coded MsrPair
+pair_stored = code_by (ℕ × Bool) (coded× coded_ℕ coded_bool) (λ m. (m.number, m.write)) (λ p. record { number = p.0; write = p.1 }) (λ _. refl)
+
+abbrev pub stored : Coded Svm
+stored = code_by (ℕ × (Ports × List MsrPair)) (coded× coded_ℕ (coded× (code coded_ℕ) (coded_list pair_stored))) (λ s. (s.names, (s.ports, s.msrs))) (λ p. record { names = p.0; ports = p.1.0; msrs = p.1.1 }) (λ _. refl)
 
 -- the bits of a set of names
 abbrev pub bits_of : SvmName → ℕ
 bits_of name = name.0
 
--- all bits of the name are in the set
-abbrev pub has_name : Svm → ℕ → Bool
-has_name set bits = bit_and set.names bits == bits
-
--- the port's bit is set in the bitmap
-unfoldable pub port_bit : List ℕ → ℕ → Bool
-port_bit ports port = bit_at (slice_index ports (port / 64)) (port % 64) == 1
-
--- one of n ports from this one on is set, port 0 following on port FFFFh
-unfoldable pub port_bits : List ℕ → ℕ → ℕ → Bool
-port_bits ports port zero = false
-port_bits ports port (suc n) = port_bit ports ((port + n) % 65536) || port_bits ports port n
+-- all bits of a name are in the set; what is no name is in none
+abbrev pub has_name : Svm → Option ℕ → Bool
+has_name set (Some bits) = bit_and set.names bits == bits
+has_name set None = false
 
 -- two directions are the same
 abbrev pub same_way : Bool → Bool → Bool
@@ -82,7 +84,7 @@ svm_name Wbinvd = codes "wbinvd"
 
 -- what must be set beside the name: for a port access one of its ports, for an MSR its pair
 abbrev pub svm_asks : Svm → Point → Bool
-svm_asks set (Io port size input string rep imm adsize seg next) = port_bits set.ports port size
+svm_asks set (Io port size input string rep imm adsize seg next) = has_one_of set.ports port size
 svm_asks set (Msr number write) = has_msr set.msrs number write
 svm_asks set _ = true
 
@@ -90,12 +92,12 @@ svm_asks set _ = true
 abbrev pub io_word : ℕ → ℕ → Bool → Bool → Bool → ℕ → ℕ → ℕ
 io_word port size input string rep adsize seg = flag input + 4 * flag string + 8 * flag rep + 16 * size + 64 * adsize + 1024 * seg + 65536 * port
 
--- the exit at a point: its code, and words of information for ports and MSRs alone
-abbrev pub svm_exit : Point → Exit
-svm_exit (Io port size input string rep imm adsize seg next) = record { code = svm_code (codes "ioio"); info1 = io_word port size input string rep adsize seg; info2 = next }
-svm_exit (Msr number write) = record { code = svm_code (codes "msr"); info1 = flag write; info2 = 0 }
-svm_exit p = record { code = svm_code (svm_name p); info1 = 0; info2 = 0 }
+-- the exit with this code at a point: words of information for ports and MSRs alone
+abbrev pub svm_exit : Point → ℕ → Exit
+svm_exit (Io port size input string rep imm adsize seg next) code = record { code = code; info1 = io_word port size input string rep adsize seg; info2 = next }
+svm_exit (Msr number write) code = record { code = code; info1 = flag write; info2 = 0 }
+svm_exit p code = record { code = code; info1 = 0; info2 = 0 }
 
 -- the exit that a set of SVM intercepts takes at a point, if it takes one
 unfoldable pub svm_hit : Svm → Point → Option Exit
-svm_hit set p = if has_name set (svm_bit (svm_name p)) && svm_asks set p then Some (svm_exit p) else None
+svm_hit set p = if has_name set (svm_bit (svm_name p)) && svm_asks set p then option_map (svm_exit p) (svm_code (svm_name p)) else None

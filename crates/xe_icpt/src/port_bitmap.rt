@@ -1,15 +1,23 @@
-//! The bitmap of the 65,536 ports, in words of 64 bits.
+//! A set of ports as a bitmap: 65,536 bits in words of 64.
 
 ghost use Rattle.std.specs.Prelude.{◌≡◌, ℕ, ◌<◌, ◌≤◌, ◌||◌, ◌&&◌, nat_le};
+ghost use Rattle.std.specs.FinSet.{contains, empty, union};
 ghost use Rattle.std.specs.Int.{bit_at};
-ghost use Rattle.xe_icpt.specs.SvmSet.{flag, port_bit, port_bits};
+ghost use Rattle.xe_icpt.specs.PortBitmap.{port_bit, ports_of};
+ghost use Rattle.xe_icpt.specs.Ports.{has_one_of, ports_between};
+ghost use Rattle.xe_icpt.specs.SvmSet.{flag};
 
-/// How many words the bitmap has.
-pub(crate) const PORT_WORDS: usize = 1024;
+/// The bitmap without a port.
+#[tactic(auto, using(crate::proofs::PortLaws::no_ports))]
+pub(crate) fn no_ports() -> [u64; 1024]
+    ensures { ports_of result ≡ empty }
+{
+    [0; 1024]
+}
 
 /// Whether the port's bit is set.
-pub(crate) fn port_bit(ports: &[u64; 1024], port: u16) -> bool
-    ensures { result ≡ port_bit ports.now port }
+fn has_port(ports: &[u64; 1024], port: u16) -> bool
+    ensures { result ≡ contains (ports_of ports.now) port }
 {
     let word = ports[port as usize / 64];
     (word >> (port % 64)) & 1 == 1
@@ -27,7 +35,7 @@ fn mask(from: u16, to: u16) -> u64
 /// Sets the bits of the ports from `low` to `high`, a word at a time.
 pub(crate) fn set_ports(ports: &mut [u64; 1024], low: u16, high: u16)
     requires { low ≤ high }
-    ensures { (port : ℕ) → port < 65536 → port_bit ports.new port ≡ (port_bit ports.old port || (nat_le low port && nat_le port high)) }
+    ensures { ports_of ports.new ≡ union (ports_of ports.old) (ports_between low high) }
 {
     for word in low / 64..high / 64 + 1 {
         let base = 64 * word;
@@ -37,11 +45,11 @@ pub(crate) fn set_ports(ports: &mut [u64; 1024], low: u16, high: u16)
 }
 
 /// Whether one of `size` ports from `port` on is set; port 0 follows on port FFFFh.
-pub(crate) fn any_port(ports: &[u64; 1024], port: u16, size: u8) -> bool
-    ensures { result ≡ port_bits ports.now port size }
+pub(crate) fn has_one_of(ports: &[u64; 1024], port: u16, size: u8) -> bool
+    ensures { result ≡ has_one_of (ports_of ports.now) port size }
 {
     for k in 0..size {
-        if port_bit(ports, port.wrapping_add(k as u16)) {
+        if has_port(ports, port.wrapping_add(k as u16)) {
             return true;
         }
     }

@@ -7,7 +7,7 @@ ghost use Rattle.bitflags.specs.Sets.{without};
 use crate::exit::Exit;
 use crate::intercepts::Intercepts;
 use crate::point::Point;
-use crate::port_bitmap::{PORT_WORDS, any_port, set_ports};
+use crate::port_bitmap::{has_one_of, no_ports, set_ports};
 use crate::svm_name::SvmName;
 use crate::svm_table::{exit_of, name_of};
 use arrayvec::ArrayVec;
@@ -35,24 +35,28 @@ pub struct SvmSet {
 }
 
 impl Model for SvmSet {
-    ghost use Rattle.xe_icpt.specs.SvmSet.{Svm};
+    ghost use Rattle.xe_icpt.specs.PortBitmap.{ports_of};
+    ghost use Rattle.xe_icpt.specs.SvmSet.{Svm, stored};
 
     ghost Value = { Svm };
 
-    ghost view = { λ s. record { names = s.names.0; ports = s.ports; msrs = s.msrs.items } };
+    ghost coded = { stored };
+
+    ghost view = { λ s. record { names = s.names.0; ports = ports_of s.ports; msrs = s.msrs.items } };
 }
 
 impl SvmSet {
-    ghost use Rattle.std.specs.Prelude.{replicate};
-    ghost use Rattle.xe_icpt.specs.SvmSet.{bits_of, port_bit, has_msr, svm_asks};
+    ghost use Rattle.std.specs.FinSet.{empty, union};
+    ghost use Rattle.xe_icpt.specs.Ports.{ports_between};
+    ghost use Rattle.xe_icpt.specs.SvmSet.{bits_of, has_msr, svm_asks};
 
     /// The set that intercepts nothing.
     pub fn new() -> SvmSet
-        ensures { result ≡ record { names = 0; ports = replicate 1024 0; msrs = [] } }
+        ensures { result ≡ record { names = 0; ports = empty; msrs = [] } }
     {
         SvmSet {
             names: SvmName::empty(),
-            ports: [0; PORT_WORDS],
+            ports: no_ports(),
             msrs: ArrayVec::new(),
         }
     }
@@ -74,8 +78,7 @@ impl SvmSet {
     /// Adds the ports from `low` to `high`.
     pub fn ports(&mut self, low: u16, high: u16)
         requires { low ≤ high }
-        ensures added { (port : ℕ) → port < 65536 → port_bit self.new.ports port ≡ (port_bit self.old.ports port || (nat_le low port && nat_le port high)) }
-        ensures rest { self.new ≡ record self.old { ports = self.new.ports } }
+        ensures { self.new ≡ record self.old { ports = union self.old.ports (ports_between low high) } }
     {
         set_ports(&mut self.ports, low, high);
     }
@@ -112,8 +115,9 @@ impl SvmSet {
         ensures { result ≡ svm_asks self.now p.now }
     {
         match *p {
-            Point::Io { port, size, .. } => any_port(&self.ports, port, size),
+            Point::Io { port, size, .. } => has_one_of(&self.ports, port, size),
             Point::Msr { number, write } => self.has_msr(MsrPair { number, write }),
+            // All others are intercepted by their name alone.
             _ => true,
         }
     }

@@ -1,6 +1,7 @@
 //! The row of a point in the table of SVM intercepts: its name, its exit code and its words.
 
-ghost use Rattle.std.specs.Prelude.{◌≡◌, ◌++◌, codes};
+ghost use Rattle.std.specs.Prelude.{◌≡◌, ◌++◌, Some, codes};
+ghost use Rattle.std.specs.Option.{option_map};
 ghost use Rattle.xe_icpt.specs.Points.{IsControl, IsPoint};
 ghost use Rattle.xe_icpt.specs.SvmNames.{svm_bit, svm_code};
 ghost use Rattle.xe_icpt.specs.SvmSet.{svm_name, svm_exit, bits_of, digit, io_word, register};
@@ -12,34 +13,36 @@ use crate::svm_name::SvmName;
 /// The name that intercepts reads of a control register.
 fn read_name(n: u8) -> SvmName
     requires { IsControl n }
-    ensures { bits_of result ≡ svm_bit (codes "read_cr" ++ digit n) }
+    ensures { svm_bit (codes "read_cr" ++ digit n) ≡ Some (bits_of result) }
 {
     match n {
         0 => SvmName::READ_CR0,
         2 => SvmName::READ_CR2,
         3 => SvmName::READ_CR3,
         4 => SvmName::READ_CR4,
-        _ => SvmName::READ_CR8,
+        8 => SvmName::READ_CR8,
+        _ => unreachable!(),
     }
 }
 
 /// The name that intercepts writes of a control register.
 fn write_name(n: u8) -> SvmName
     requires { IsControl n }
-    ensures { bits_of result ≡ svm_bit (codes "write_cr" ++ digit n) }
+    ensures { svm_bit (codes "write_cr" ++ digit n) ≡ Some (bits_of result) }
 {
     match n {
         0 => SvmName::WRITE_CR0,
         2 => SvmName::WRITE_CR2,
         3 => SvmName::WRITE_CR3,
         4 => SvmName::WRITE_CR4,
-        _ => SvmName::WRITE_CR8,
+        8 => SvmName::WRITE_CR8,
+        _ => unreachable!(),
     }
 }
 
 /// The name that intercepts a store of a table register.
 fn read_table(t: TableName) -> SvmName
-    ensures { bits_of result ≡ svm_bit (codes "read_" ++ register t) }
+    ensures { svm_bit (codes "read_" ++ register t) ≡ Some (bits_of result) }
 {
     match t {
         TableName::Idtr => SvmName::READ_IDTR,
@@ -51,7 +54,7 @@ fn read_table(t: TableName) -> SvmName
 
 /// The name that intercepts a load of a table register.
 fn write_table(t: TableName) -> SvmName
-    ensures { bits_of result ≡ svm_bit (codes "write_" ++ register t) }
+    ensures { svm_bit (codes "write_" ++ register t) ≡ Some (bits_of result) }
 {
     match t {
         TableName::Idtr => SvmName::WRITE_IDTR,
@@ -64,7 +67,7 @@ fn write_table(t: TableName) -> SvmName
 /// The name that intercepts a point.
 pub(crate) fn name_of(p: &Point) -> SvmName
     requires { IsPoint p.now }
-    ensures { bits_of result ≡ svm_bit (svm_name p.now) }
+    ensures { svm_bit (svm_name p.now) ≡ Some (bits_of result) }
 {
     match *p {
         Point::CrRead { n, .. } => read_name(n),
@@ -90,7 +93,7 @@ pub(crate) fn name_of(p: &Point) -> SvmName
 
 /// The exit code of a store of a table register.
 fn read_table_code(t: TableName) -> u32
-    ensures { result ≡ svm_code (codes "read_" ++ register t) }
+    ensures { svm_code (codes "read_" ++ register t) ≡ Some result }
 {
     match t {
         TableName::Idtr => 0x66,
@@ -102,7 +105,7 @@ fn read_table_code(t: TableName) -> u32
 
 /// The exit code of a load of a table register.
 fn write_table_code(t: TableName) -> u32
-    ensures { result ≡ svm_code (codes "write_" ++ register t) }
+    ensures { svm_code (codes "write_" ++ register t) ≡ Some result }
 {
     match t {
         TableName::Idtr => 0x6a,
@@ -115,7 +118,7 @@ fn write_table_code(t: TableName) -> u32
 /// The exit code of a point (AMD64 APM volume 2, appendix "SVM Intercept Exit Codes").
 fn code_of(p: &Point) -> u32
     requires { IsPoint p.now }
-    ensures { result ≡ svm_code (svm_name p.now) }
+    ensures { svm_code (svm_name p.now) ≡ Some result }
 {
     match *p {
         Point::CrRead { n, .. } => n as u32,
@@ -153,7 +156,7 @@ fn io_word(port: u16, size: u8, input: bool, string: bool, rep: bool, adsize: u8
 /// The exit of a point that is intercepted.
 pub(crate) fn exit_of(p: &Point) -> Exit
     requires { IsPoint p.now }
-    ensures { result ≡ svm_exit p.now }
+    ensures { option_map (svm_exit p.now) (svm_code (svm_name p.now)) ≡ Some result }
 {
     let (info1, info2) = match *p {
         Point::Io {
@@ -168,6 +171,7 @@ pub(crate) fn exit_of(p: &Point) -> Exit
             ..
         } => (io_word(port, size, input, string, rep, adsize, seg), next),
         Point::Msr { write, .. } => (u64::from(write), 0),
+        // No other exit has words of information.
         _ => (0, 0),
     };
     Exit {

@@ -1,6 +1,6 @@
 use Rattle.std.proofs.Common.{◌<◌, ◌≤◌, ◌*◌, ◌%◌, ◌∙◌, arith, length, length-set, get_or, bit_or}
-use Rattle.xe_icpt.specs.SvmSet.{port_bit}
-use Rattle.xe_icpt.proofs.PortLaws.{set-word, bits-start, bits-end}
+use Rattle.xe_icpt.specs.PortBitmap.{port_bit}
+use Rattle.xe_icpt.proofs.PortLaws.{set-word, bits-start, bits-end, ports-added}
 use Rattle.xe_icpt.proofs.port_bitmap.set_ports.Goals as goal
 
 pub loop-word-init : goal.loop-word-init
@@ -20,4 +20,4 @@ loop-word-preserved c =
     }
 
 pub returns : goal.returns
-returns c = λ port h. c.loop-word.invariant.bits port h ∙ bits-end (port_bit c.args.ports.now port) c.args.low c.args.high port c.loop-word.word (omega arith)
+returns c = ports-added c.args.ports.now c.loop-word.ports c.args.low c.args.high c.requires (omega arith) (λ port h. c.loop-word.invariant.bits port h ∙ bits-end (port_bit c.args.ports.now port) c.args.low c.args.high port c.loop-word.word (omega arith))

@@ -1,5 +1,5 @@
 use Rattle.std.proofs.Common.{◌≡◌, ◌<◌, ◌/◌, ◌||◌, ◌&&◌, ℕ, nat_le, nat_lt, length}
-use Rattle.xe_icpt.specs.SvmSet.{port_bit}
+use Rattle.xe_icpt.specs.PortBitmap.{port_bit}
 use Rattle.xe_icpt.proofs.port_bitmap.set_ports.Given as goal
 
 abbrev pub invariant-loop-word : goal.invariant-loop-word

@@ -1,4 +1,4 @@
-use Rattle.std.proofs.Common.{◌∙◌, sym, ap, Some}
+use Rattle.std.proofs.Common.{◌∙◌, sym, ap}
 use Rattle.xe_icpt.specs.SvmSet.{Svm}
 use Rattle.xe_icpt.proofs.SvmRows.{hit-unnamed, hit-unasked, hit-taken, name-test}
 use Rattle.xe_icpt.proofs.svm_set.SvmSetIntercepts.check.Goals as goal
@@ -7,7 +7,7 @@ use Rattle.xe_icpt.proofs.svm_set.SvmSetIntercepts.check.Goals.{else-contains-vi
 pub returns-then-asks : goal.returns-then-asks
 returns-then-asks c =
     let n = name-test c.args.self.now c.args.p.now c.self.inside.names.0 c.name_of.result.0 (ap (λ (s : Svm). s.names) c.self.view_is) c.name_of.ensures in
-    ap Some c.exit_of.ensures ∙ sym (hit-taken c.args.self.now c.args.p.now (n ∙ sym (c.contains.ensures tt) ∙ c.if-contains.true) (sym c.asks.ensures ∙ c.if-asks.true))
+    sym (hit-taken c.args.self.now c.args.p.now (n ∙ sym (c.contains.ensures tt) ∙ c.if-contains.true) (sym c.asks.ensures ∙ c.if-asks.true) ∙ c.exit_of.ensures)
 
 pub returns-else-contains : goal.returns-else-contains
 returns-else-contains c =
