@@ -4,6 +4,7 @@ pub mod Access
 pub mod State
 pub mod Reset
 pub mod Exceptions
+pub mod Segments
 pub mod Registers
 pub mod Ram
 pub mod Bytes

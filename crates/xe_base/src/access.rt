@@ -3,7 +3,7 @@
 use crate::cpu::Mode;
 
 /// The space in which a device is addressed.
-#[derive(Clone, Copy, Drop, PartialEq, Eq, PartialOrd, Ord, Debug, Default)]
+#[derive(Clone, Copy, PartialEq, Eq, PartialOrd, Ord, Debug, Default)]
 pub enum Space {
     /// Physical memory outside RAM.
     #[default]
@@ -20,7 +20,7 @@ pub enum Space {
 ///
 /// It is well formed where its size is 1, 2, 4 or 8 in `Mem`, 1, 2 or 4 in `Port` and 8 in `Msr`
 /// and `Cpuid`, and its value is below 2^(8 * size), and 0 for a read.
-#[derive(Clone, Copy, Drop, PartialEq, Eq, Debug, Default)]
+#[derive(Clone, Copy, PartialEq, Eq, Debug, Default)]
 pub struct Access {
     pub space: Space,
     pub write: bool,
@@ -32,7 +32,7 @@ pub struct Access {
 }
 
 /// What a device answers to an access.
-#[derive(Clone, Copy, Drop, PartialEq, Eq, Debug)]
+#[derive(Clone, Copy, PartialEq, Eq, Debug)]
 pub enum Answer {
     /// The answer, below 2^(8 * size) of the access: the value read; to a write it has no meaning.
     Val(u64),
@@ -64,14 +64,14 @@ impl Answer {
 }
 
 /// An access that was made, with its answer.
-#[derive(Clone, Copy, Drop, PartialEq, Eq, Debug, Default)]
+#[derive(Clone, Copy, PartialEq, Eq, Debug, Default)]
 pub struct Made {
     pub access: Access,
     pub answer: Answer,
 }
 
 /// An exception (SDM volume 3, "Interrupt and Exception Handling").
-#[derive(Clone, Copy, Drop, PartialEq, Eq, Debug)]
+#[derive(Clone, Copy, PartialEq, Eq, Debug)]
 pub struct Fault {
     pub vector: u8,
     /// The error code; None where the exception pushes none.
@@ -127,5 +127,5 @@ impl Fault {
 }
 
 /// Memory was refused: the answer of a call that has no other one.
-#[derive(Clone, Copy, Drop, PartialEq, Eq, Debug)]
+#[derive(Clone, Copy, PartialEq, Eq, Debug)]
 pub struct NoMemory;

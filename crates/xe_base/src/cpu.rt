@@ -17,7 +17,7 @@ use crate::segment::{Seg, SegName, Table};
 /// The general registers are numbered as in the encoding: RAX, RCX, RDX, RBX, RSP, RBP, RSI, RDI,
 /// R8 to R15. The FS_BASE and GS_BASE registers are `fs.base` and `gs.base`, and `kgs` is
 /// KERNEL_GS_BASE.
-#[derive(Clone, Copy, Drop, PartialEq, Eq, Debug)]
+#[derive(Clone, Copy, PartialEq, Eq, Debug)]
 pub struct Cpu {
     pub gpr: [u64; 16],
     pub rip: u64,
@@ -45,7 +45,7 @@ pub struct Cpu {
 /// The mode of operation (SDM volume 3, "Modes of Operation"): with EFER.LMA 0 real-address mode
 /// where CR0.PE is 0, else protected mode; with LMA 1 64-bit mode where CS.L is 1, else
 /// compatibility mode.
-#[derive(Clone, Copy, Drop, PartialEq, Eq, Debug)]
+#[derive(Clone, Copy, PartialEq, Eq, Debug)]
 pub enum Mode {
     Real,
     Protected,
@@ -54,7 +54,7 @@ pub enum Mode {
 }
 
 /// The size of the code that runs: 64 bits in 64-bit mode, elsewhere 32 where CS.DB is 1, else 16.
-#[derive(Clone, Copy, Drop, PartialEq, Eq, Debug)]
+#[derive(Clone, Copy, PartialEq, Eq, Debug)]
 pub enum CodeSize {
     B16,
     B32,
@@ -65,7 +65,7 @@ pub enum CodeSize {
 ///
 /// 1 the flags; 2 CR0; 3 CR4; 4 EFER; 5 CR3 and CR8; 6 the segments' attributes and bases; 7 CPL;
 /// 8 CS.L with CS.DB; 9 the instruction pointer; and for now 20: protected mode does not run yet.
-#[derive(Clone, Copy, Drop, PartialEq, Eq, Debug)]
+#[derive(Clone, Copy, PartialEq, Eq, Debug)]
 pub struct BadState {
     pub rule: u8,
 }

@@ -1,10 +1,12 @@
+//! Words of a width, and what they are as signed numbers.
+
 ghost use Rattle.std.specs.Prelude.{◌≡◌, ◌%◌, ◌^◌, ◌<◌, bit_and, bit_or, bit_xor, ◌-◌, ◌≤◌, unsigned_abs};
 ghost use Rattle.xe_base.specs.Words.{IsWidth, top, is_even_low, signed, wrapped, fits_signed};
 
 use std::marker::Model;
 
 /// A number below 2^W, where W is 8, 16, 32 or 64.
-#[derive(Clone, Copy, Debug, PartialEq, Eq)]
+#[derive(Clone, Copy, PartialEq, Eq, Debug)]
 pub struct Word<const W: u32> {
     value: u64,
 }

@@ -2,7 +2,7 @@ use Rattle.std.specs.Prelude.{ℕ, false, not, ◌+◌, ◌%◌, ◌^◌, ◌==�
 use Rattle.std.specs.Int.{from_bool}
 use Rattle.std.specs.Int.Signed.{shr_z}
 use Rattle.xe_base.specs.Words.{signed, fits_signed, wrapped, top, is_even_low}
-use Rattle.xe_flags.specs.Status.{flag, with_status}
+use Rattle.xe_flags.specs.Status.{status_of, with_status}
 use Rattle.xe_flags.specs.declared.status.Status.{Status}
 use Rattle.xe_flags.specs.declared.arithmetic.AluOp.{AluOp}
 use Rattle.xe_flags.specs.declared.arithmetic.AluOp.TheVariants.{Add, Or, Adc, Sbb, And, Sub, Xor, Cmp}
@@ -45,7 +45,7 @@ logic_status W r = record { carry = false; parity = is_even_low r; adjust = fals
 
 -- the carry that comes in
 abbrev pub carry_in : ℕ → ℕ
-carry_in flags = from_bool (flag flags 0)
+carry_in flags = from_bool (status_of flags).carry
 
 -- the word of each operation, where c is the carry that comes in; CMP leaves a
 unfoldable pub alu_result : ℕ → AluOp → ℕ → ℕ → ℕ → ℕ

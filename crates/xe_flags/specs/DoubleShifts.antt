@@ -1,7 +1,7 @@
 use Rattle.std.specs.Prelude.{ℕ, Bool, true, false, ◌+◌, ◌-◌, ◌*◌, ◌/◌, ◌%◌, ◌^◌, ◌==◌, if◌then◌else◌}
 use Rattle.xe_base.specs.Words.{top}
-use Rattle.xe_flags.specs.Status.{with_status}
-use Rattle.xe_flags.specs.Shifts.{distance, differ, shifted_status}
+use Rattle.xe_flags.specs.Status.{differ, with_status}
+use Rattle.xe_flags.specs.Shifts.{distance, shifted_status}
 use Rattle.xe_flags.specs.declared.status.Status.{Status}
 
 -- SDM volume 2, "SHLD" and "SHRD". The SDM leaves the result of a count above the width undefined: here it is the

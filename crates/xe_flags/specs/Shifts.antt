@@ -1,9 +1,8 @@
 use Rattle.std.specs.Prelude.{ℕ, Bool, false, not, ◌+◌, ◌-◌, ◌*◌, ◌/◌, ◌%◌, ◌^◌, ◌==◌, ℤ, pos, negsuc, if◌then◌else◌}
 use Rattle.std.specs.Int.{from_bool}
-use Rattle.std.proofs.Math.Bool.{beq}
 use Rattle.xe_base.specs.Words.{signed, wrapped, top, is_even_low}
 use Rattle.xe_flags.specs.Arithmetic.{floor}
-use Rattle.xe_flags.specs.Status.{flag, status_of, with_status}
+use Rattle.xe_flags.specs.Status.{differ, status_of, with_status}
 use Rattle.xe_flags.specs.declared.status.Status.{Status}
 use Rattle.xe_flags.specs.declared.shifts.ShiftOp.{ShiftOp}
 use Rattle.xe_flags.specs.declared.shifts.ShiftOp.TheVariants.{Rol, Ror, Rcl, Rcr, Shl, Shr, Sar}
@@ -18,10 +17,6 @@ distance W count = count % (if W == 64 then 64 else 32)
 abbrev pub is_odd : ℤ → Bool
 is_odd (pos n) = n % 2 == 1
 is_odd (negsuc n) = n % 2 == 0
-
--- two bits that are not the same
-abbrev pub differ : Bool → Bool → Bool
-differ a b = not (beq a b)
 
 -- n bits turned right by k: the low k of them move to the top
 abbrev pub turned_right : ℕ → ℕ → ℕ → ℕ
@@ -82,7 +77,7 @@ shift_status W Sar a s k = shifted_status W (wrapped W (floor (signed W a) (2 ^ 
 
 -- the word after a count; a distance of 0 leaves it
 abbrev pub shift_word : ℕ → ShiftOp → ℕ → ℕ → ℕ → ℕ
-shift_word W op a count flags = if distance W count == 0 then a else shift_result W op a (flag flags 0) (distance W count)
+shift_word W op a count flags = if distance W count == 0 then a else shift_result W op a (status_of flags).carry (distance W count)
 
 -- the flags after a count; a distance of 0 leaves them
 abbrev pub shift_flags : ℕ → ShiftOp → ℕ → ℕ → ℕ → ℕ

@@ -1,4 +1,6 @@
-use Rattle.std.specs.Prelude.{◌≡◌, ℕ, Bool, ◌+◌, ◌-◌, ◌/◌, ◌%◌, ◌^◌, ◌==◌, if◌then◌else◌, bit_and, bit_or}
+use Rattle.std.specs.Prelude.{◌≡◌, ℕ, Bool, not, ◌+◌, ◌-◌, ◌^◌, ◌==◌, if◌then◌else◌, bit_and, bit_or}
+use Rattle.std.proofs.Math.Bool.{beq}
+use Rattle.xe_base.specs.Bits.{bit}
 use Rattle.xe_base.specs.Words.{top, is_even_low}
 use Rattle.xe_flags.specs.declared.status.Status.{Status}
 
@@ -6,7 +8,11 @@ use Rattle.xe_flags.specs.declared.status.Status.{Status}
 
 -- the bit k of the flags is set
 abbrev pub flag : ℕ → ℕ → Bool
-flag flags k = flags / 2 ^ k % 2 == 1
+flag flags k = bit flags k
+
+-- two bits that are not the same
+abbrev pub differ : Bool → Bool → Bool
+differ a b = not (beq a b)
 
 -- a bit at its place
 abbrev pub at_place : Bool → ℕ → ℕ

@@ -1,13 +1,15 @@
+//! Sums, differences and bitwise operations of two words.
+
 ghost use Rattle.std.specs.Prelude.{◌≡◌, ◌%◌, ◌^◌};
 ghost use Rattle.std.specs.Int.{from_bool};
 ghost use Rattle.xe_flags.specs.Arithmetic.{alu_word, alu_flags, alu_result, alu_status, sum_word, sum_status, difference_word, difference_status, logic_status};
 ghost use Rattle.xe_flags.specs.Status.{SameOthers};
 
-use crate::status::{Status, flag, with_status};
+use crate::status::{Status, status_of, with_status};
 use xe_base::Word;
 
 /// The eight operations on two words, in the order of their opcodes.
-#[derive(Clone, Copy, Debug, PartialEq, Eq)]
+#[derive(Clone, Copy, PartialEq, Eq, Debug)]
 pub enum AluOp {
     Add,
     Or,
@@ -59,8 +61,8 @@ pub(crate) fn difference<const W: u32>(a: Word<W>, b: Word<W>, borrow: bool) -> 
     (word, status)
 }
 
-#[tactic(auto, unfolding(crate::specs::Arithmetic::logic_status))]
 /// What a bitwise operation says of its result.
+#[tactic(auto, unfolding(crate::specs::Arithmetic::logic_status))]
 fn logic<const W: u32>(word: Word<W>) -> (Word<W>, Status)
     ensures word { result.0 ≡ word.entry }
     ensures status { result.1 ≡ logic_status W word.entry }
@@ -104,6 +106,6 @@ pub fn alu<const W: u32>(op: AluOp, a: Word<W>, b: Word<W>, flags: u64) -> (Word
     ensures flags { result.1 ≡ alu_flags W op a.entry b.entry flags }
     ensures kept { SameOthers flags result.1 }
 {
-    let (word, status) = outcome(op, a, b, flag(flags, 0));
+    let (word, status) = outcome(op, a, b, status_of(flags).carry);
     (word, with_status(flags, status))
 }

@@ -2,13 +2,14 @@
 
 ghost use Rattle.std.specs.Prelude.{◌≡◌, ◌<◌};
 ghost use Rattle.xe_flags.specs.Bits.{with_bit, bit_word, bit_flags, bit_result};
-ghost use Rattle.xe_flags.specs.Status.{flag as flag_of, SameOthers};
+ghost use Rattle.xe_base.specs.Bits.{bit as bit_of};
+ghost use Rattle.xe_flags.specs.Status.{SameOthers};
 
 use crate::status::{Status, flag, status_of, with_status};
 use xe_base::Word;
 
 /// The four operations on one bit.
-#[derive(Clone, Copy, Debug, PartialEq, Eq)]
+#[derive(Clone, Copy, PartialEq, Eq, Debug)]
 pub enum BitOp {
     Test,
     Set,
@@ -30,7 +31,7 @@ fn with_bit<const W: u32>(a: Word<W>, at: u32, on: bool) -> Word<W>
 #[tactic(auto, unfolding(crate::specs::Bits::bit_result))]
 fn outcome<const W: u32>(op: BitOp, a: Word<W>, at: u32, is_set: bool) -> Word<W>
     requires place { at < W }
-    requires own { is_set ≡ flag_of a at }
+    requires own { is_set ≡ bit_of a at }
     ensures { result ≡ bit_result op a.entry at }
 {
     match op {

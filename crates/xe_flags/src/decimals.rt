@@ -9,7 +9,7 @@ use crate::status::{Status, status_of, with_status};
 use xe_base::Word;
 
 /// The six corrections.
-#[derive(Clone, Copy, Debug, PartialEq, Eq)]
+#[derive(Clone, Copy, PartialEq, Eq, Debug)]
 pub enum BcdOp {
     Daa,
     Das,
@@ -172,7 +172,7 @@ fn is_by_zero(op: BcdOp, imm: u8) -> bool
 {
     match op {
         BcdOp::Aam => imm == 0,
-        _ => false,
+        BcdOp::Daa | BcdOp::Das | BcdOp::Aaa | BcdOp::Aas | BcdOp::Aad => false,
     }
 }
 

@@ -5,11 +5,11 @@ ghost use Rattle.xe_flags.specs.OneOperand.{unary_word, unary_flags};
 ghost use Rattle.xe_flags.specs.Status.{SameOthers};
 
 use crate::arithmetic::{difference, sum};
-use crate::status::{Status, flag, with_status};
+use crate::status::{Status, status_of, with_status};
 use xe_base::Word;
 
 /// The four operations on one word.
-#[derive(Clone, Copy, Debug, PartialEq, Eq)]
+#[derive(Clone, Copy, PartialEq, Eq, Debug)]
 pub enum UnOp {
     Inc,
     Dec,
@@ -26,7 +26,7 @@ pub fn unary<const W: u32>(op: UnOp, a: Word<W>, flags: u64) -> (Word<W>, u64)
     ensures flags { result.1 ≡ unary_flags W op a.entry flags }
     ensures kept { SameOthers flags result.1 }
 {
-    let carry = flag(flags, 0);
+    let carry = status_of(flags).carry;
     match op {
         UnOp::Inc => {
             let (word, status) = sum(a, Word::new(1), false);

@@ -7,7 +7,7 @@ ghost use Rattle.xe_flags.specs.Quotients.{unsigned_divided, signed_divided, div
 use xe_base::Word;
 
 /// A division by 0, or whose quotient has no room.
-#[derive(Clone, Copy, Debug, PartialEq, Eq)]
+#[derive(Clone, Copy, PartialEq, Eq, Debug)]
 pub struct DivFault;
 
 /// The number that two words make.

@@ -8,7 +8,7 @@ use crate::status::{Status, status_of, with_status};
 use xe_base::Word;
 
 /// What is looked for: the lowest one, the highest one, or how many there are.
-#[derive(Clone, Copy, Debug, PartialEq, Eq)]
+#[derive(Clone, Copy, PartialEq, Eq, Debug)]
 pub enum ScanOp {
     Forward,
     Backward,

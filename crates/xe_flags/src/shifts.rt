@@ -11,7 +11,7 @@ use crate::status::{Status, status_of, with_status};
 use xe_base::Word;
 
 /// The seven shifts and rotates.
-#[derive(Clone, Copy, Debug, PartialEq, Eq)]
+#[derive(Clone, Copy, PartialEq, Eq, Debug)]
 pub enum ShiftOp {
     Rol,
     Ror,

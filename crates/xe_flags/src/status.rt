@@ -7,7 +7,7 @@ ghost use Rattle.xe_flags.specs.Status.{with_status, flag, encoded, status_of, S
 pub const STATUS: u64 = 0x8D5;
 
 /// What an arithmetic instruction says of its result.
-#[derive(Clone, Copy, Debug, PartialEq, Eq)]
+#[derive(Clone, Copy, PartialEq, Eq, Debug)]
 pub struct Status {
     pub carry: bool,
     pub parity: bool,

@@ -1,7 +1,7 @@
 //! The exit that an intercept takes.
 
 /// An exit to the hypervisor, as the set of intercepts words it.
-#[derive(Clone, Copy, Drop, PartialEq, Eq, Debug, Default)]
+#[derive(Clone, Copy, PartialEq, Eq, Debug, Default)]
 pub struct Exit {
     /// Why: for the SVM set EXITCODE of the APM, volume 2, appendix "SVM Intercept Exit Codes".
     pub code: u32,

@@ -19,7 +19,7 @@ pub trait Intercepts {
 }
 
 /// The set that intercepts nothing.
-#[derive(Clone, Copy, Drop, PartialEq, Eq, Debug, Default)]
+#[derive(Clone, Copy, PartialEq, Eq, Debug, Default)]
 pub struct NoHits;
 
 impl Intercepts for NoHits {

@@ -1,7 +1,7 @@
 //! The points at which an instruction may be intercepted.
 
 /// What writes a control register.
-#[derive(Clone, Copy, Drop, PartialEq, Eq, Debug)]
+#[derive(Clone, Copy, PartialEq, Eq, Debug)]
 pub enum CrKind {
     /// MOV from a general register.
     Mov,
@@ -12,7 +12,7 @@ pub enum CrKind {
 }
 
 /// A descriptor table register, or the task register.
-#[derive(Clone, Copy, Drop, PartialEq, Eq, Debug)]
+#[derive(Clone, Copy, PartialEq, Eq, Debug)]
 pub enum TableName {
     Idtr,
     Gdtr,
@@ -25,7 +25,7 @@ pub enum TableName {
 /// A point is well formed where `n` is 0, 2, 3, 4 or 8, and 0 with LMSW and CLTS; the value of
 /// LMSW is below 2^16; `reg` is at most 15; `size` is 1, 2 or 4; `adsize` is 2, 4 or 8; and `seg` is at
 /// most 5.
-#[derive(Clone, Copy, Drop, PartialEq, Eq, Debug)]
+#[derive(Clone, Copy, PartialEq, Eq, Debug)]
 pub enum Point {
     /// Control register `n` is read into general register `reg`.
     CrRead {

@@ -9,7 +9,7 @@ use bitflags::{Flag, Flags};
 ///
 /// The names are those of the scenario text; `from_name` of [`Flags`] reads one. Bits that no name
 /// has are kept, and intercept nothing.
-#[derive(Clone, Copy, Drop, PartialEq, Eq, Debug, Default)]
+#[derive(Clone, Copy, PartialEq, Eq, Debug, Default)]
 pub struct SvmName(u64);
 
 impl SvmName {

@@ -15,7 +15,7 @@ use bitflags::Flags;
 use std::marker::Model;
 
 /// A model-specific register with a direction of access.
-#[derive(Clone, Copy, Drop, PartialEq, Eq, Debug, Default)]
+#[derive(Clone, Copy, PartialEq, Eq, Debug, Default)]
 pub struct MsrPair {
     pub number: u32,
     pub write: bool,

@@ -20,7 +20,7 @@ const PAGE: u64 = 0x1000;
 const ADDRESS_END: u64 = 1 << 40;
 
 /// A range of guest physical addresses that is RAM.
-#[derive(Clone, Copy, Drop, PartialEq, Eq, Debug, Default)]
+#[derive(Clone, Copy, PartialEq, Eq, Debug, Default)]
 pub struct Region {
     /// Its first address.
     pub start: u64,
@@ -29,7 +29,7 @@ pub struct Region {
 }
 
 /// Why no guest memory was made: the reasons 1 to 3, in this order.
-#[derive(Clone, Copy, Drop, PartialEq, Eq, Debug, Error)]
+#[derive(Clone, Copy, PartialEq, Eq, Debug, Error)]
 pub enum MemFault {
     #[error("there is no memory for the guest's RAM")]
     NoMemory,
