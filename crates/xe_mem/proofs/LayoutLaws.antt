@@ -106,11 +106,15 @@ follow-each [] low i d h l = absurd (omega arith)
 follow-each (r ∷ rs) low zero d h l = (fits-parts low r (follow-parts low r rs h).0).below
 follow-each (r ∷ rs) low (suc i) d h l = follow-each rs (r.start + r.len) i d (follow-parts low r rs h).1 (omega arith)
 
+-- all bytes before the first gap are RAM
+pub ram-below : (ram : List Area) (pa gap : ℕ) → IsGap ram pa gap → (n : ℕ) → pa + n ≤ gap → AreRam ram pa n
+ram-below ram pa gap g n h = record { each = λ k m. g.before (pa + k) (omega arith) (omega arith) }
+
 -- n bytes are RAM exactly where the first gap is at least n addresses on
 pub is-ram : (ram : List Area) (pa gap n : ℕ) → IsGap ram pa gap → (IsTrue (nat_le n (gap - pa)) → AreRam ram pa n) × (AreRam ram pa n → IsTrue (nat_le n (gap - pa)))
 is-ram ram pa gap n g =
     let l = g.reached in (
-      λ t. let h : n ≤ gap - pa = leb-true _ _ t in record { each = λ k m. g.before (pa + k) (omega arith) (omega arith) },
+      λ t. let h : n ≤ gap - pa = leb-true _ _ t in ram-below ram pa gap g n (omega arith),
       λ are. elim (cases_lt (gap - pa) n) [
         | inl m ↦
             let e : pa + (gap - pa) ≡ gap = omega arith in

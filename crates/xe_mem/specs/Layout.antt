@@ -2,7 +2,9 @@ use Rattle.std.specs.Prelude.{ℕ, ◌+◌, ◌^◌, ◌%◌, ◌≡◌, ◌<◌
 use Rattle.xe_base.specs.Ram.{Area, in_ram}
 use Rattle.xe_mem.specs.declared.region.Region.{Region}
 
--- Which lists of regions a guest may have, and the RAM that they make (this project's choice: whole pages, 40 address bits, at most 16 regions, 16 MiB in all).
+-- Which lists of regions a guest may have, and the RAM that they make. This project takes whole pages, so that no page is RAM in part;
+-- 40 bits of physical addresses, as CR3 has here; and at most 16 regions with 16 MiB in all, so that a search among them and the room that
+-- they take stay small.
 
 -- the address is in the region
 unfoldable pub covers : Region → ℕ → Bool

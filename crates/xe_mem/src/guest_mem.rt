@@ -40,7 +40,8 @@ impl GuestMem {
     /// The list is refused as `TooLarge` where it has more than 16 regions; then as `BadRegion`,
     /// with the index of the first region whose start or length is no multiple of 1000h, that is
     /// empty, ends past 2^40, or begins below the end of the one before it; then as `TooLarge`
-    /// where all regions have more than 16 MiB together (the limits are this project's choice).
+    /// where all regions have more than 16 MiB together. The limits keep the room that a guest takes
+    /// and a search among its regions small.
     /// `NoMemory` comes only for a list that isn't refused.
     pub fn create(alloc: Global, list: &[Region]) -> Result<GuestMem, MemFault>
         ensures made { IfOk result (λ mem. mem ≡ zeroed list.now) }
@@ -77,9 +78,11 @@ impl GuestMem {
         self.regions.as_slice()
     }
 
-    /// The first address from `from` on that isn't RAM.
+    /// The first address from `from` on that isn't RAM; regions that touch are passed as one. So
+    /// from `from` on as many bytes can be loaded or stored as the answer is ahead, and no more.
     pub fn first_gap(&self, from: u64) -> u64
-        ensures { IsGap self.now from result }
+        ensures gap { IsGap self.now from result }
+        ensures ram { (n : ℕ) → from + n ≤ result → AreRam self.now from n }
     {
         gap_from(self.regions.as_slice(), from)
     }

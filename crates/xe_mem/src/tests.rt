@@ -84,6 +84,32 @@ fn makes_ram(rt: HostRuntime) -> Result<(), Fail> {
     Ok(())
 }
 
+/// As many bytes as there are, at most 15: how an instruction is fetched.
+fn fetched(mem: &GuestMem, pa: u64, out: &mut [u8; 15]) -> usize {
+    let n = (mem.first_gap(pa) - pa).min(15) as usize;
+    mem.load(pa, &mut out[..n]);
+    n
+}
+
+#[test]
+fn fetches_across_regions(rt: HostRuntime) -> Result<(), Fail> {
+    let list = [region(0, PAGE), region(PAGE, PAGE)];
+    let mut mem = GuestMem::create(rt.alloc(), &list)?;
+    assert!(rt; mem.is_ram(PAGE - 2, 4));
+    mem.store(PAGE - 2, &[1, 2, 3, 4]);
+    let mut out = [9; 15];
+    let n = fetched(&mem, PAGE - 2, &mut out);
+    assert!(rt; n == 15);
+    assert!(rt; out == [1, 2, 3, 4, 0, 0, 0, 0, 0, 0, 0, 0, 0, 0, 0]);
+    let mut out = [9; 15];
+    let n = fetched(&mem, 2 * PAGE - 3, &mut out);
+    assert!(rt; n == 3);
+    assert!(rt; out == [0, 0, 0, 9, 9, 9, 9, 9, 9, 9, 9, 9, 9, 9, 9]);
+    let n = fetched(&mem, u64::MAX, &mut out);
+    assert!(rt; n == 0);
+    Ok(())
+}
+
 /// Checks what a copy makes of the bytes 1 to 24.
 fn copies(
     rt: &impl Abort,
