@@ -1,13 +1,13 @@
-use Rattle.std.specs.Prelude.{ℕ}
+use Rattle.std.specs.Prelude.{ℕ, [], ◌∷◌}
 use Rattle.xe_base.specs.declared.cpu.Cpu.{Cpu}
 use Rattle.xe_base.specs.declared.segment.Seg.{Seg}
 use Rattle.xe_base.specs.declared.segment.Table.{Table}
-use Rattle.std.specs.Prelude.{[], ◌∷◌}
 
 -- a segment at address 0 with 64 KiB
 abbrev pub flat : ℕ → Seg
 flat attr = record { sel = 0; base = 0; limit = 0xFFFF; attr = attr }
 
+-- a table at address 0 with 64 KiB
 abbrev pub wide_table : Table
 wide_table = record { base = 0; limit = 0xFFFF }
 

@@ -16,6 +16,15 @@ pe cpu = bit cpu.cr0 0
 abbrev pub pg : Cpu → Bool
 pg cpu = bit cpu.cr0 31
 
+abbrev pub et : Cpu → Bool
+et cpu = bit cpu.cr0 4
+
+abbrev pub nw : Cpu → Bool
+nw cpu = bit cpu.cr0 29
+
+abbrev pub cd : Cpu → Bool
+cd cpu = bit cpu.cr0 30
+
 abbrev pub pae : Cpu → Bool
 pae cpu = bit cpu.cr4 5
 
@@ -78,7 +87,7 @@ flags_are_valid cpu = bit cpu.rflags 1 && only 0x247FD7 cpu.rflags
 
 -- PE, MP, EM, TS, ET, NE, WP, AM, NW, CD and PG alone; ET is 1; PG needs PE; NW needs CD
 abbrev pub cr0_is_valid : Cpu → Bool
-cr0_is_valid cpu = only 0xE005003F cpu.cr0 && bit cpu.cr0 4 && needs (pg cpu) (pe cpu) && needs (bit cpu.cr0 29) (bit cpu.cr0 30)
+cr0_is_valid cpu = only 0xE005003F cpu.cr0 && et cpu && needs (pg cpu) (pe cpu) && needs (nw cpu) (cd cpu)
 
 -- TSD, DE, PSE, PAE, MCE, PGE, OSFXSR, OSXMMEXCPT, SMEP and SMAP alone
 abbrev pub cr4_is_valid : Cpu → Bool

@@ -70,6 +70,21 @@ pub struct BadState {
     pub rule: u8,
 }
 
+/// The bits of CR0, CR4 and EFER that the modes and the rules look at.
+const CR0_PE: u32 = 0;
+const CR0_ET: u32 = 4;
+const CR0_NW: u32 = 29;
+const CR0_CD: u32 = 30;
+const CR0_PG: u32 = 31;
+const CR4_PAE: u32 = 5;
+const EFER_LME: u32 = 8;
+const EFER_LMA: u32 = 10;
+
+/// The bits of a segment's attributes that say what its code is.
+const ATTR_L: u32 = 9;
+const ATTR_DB: u32 = 10;
+
+/// A segment of writable data at address 0, with 64 KiB.
 const FLAT: Seg = Seg {
     sel: 0,
     base: 0,
@@ -77,6 +92,7 @@ const FLAT: Seg = Seg {
     attr: 0x93,
 };
 
+/// A table at address 0, with 64 KiB.
 const WIDE_TABLE: Table = Table {
     base: 0,
     limit: 0xFFFF,
@@ -126,21 +142,23 @@ impl Seg {
     pub fn l(&self) -> bool
         ensures { result ≡ seg_l self.now }
     {
-        bit(self.attr as u64, 9)
+        bit(self.attr as u64, ATTR_L)
     }
 
     /// DB: code, data or a stack of 32 bits.
     pub fn db(&self) -> bool
         ensures { result ≡ seg_db self.now }
     {
-        bit(self.attr as u64, 10)
+        bit(self.attr as u64, ATTR_DB)
     }
 }
 
 impl Cpu {
     /// The state that a machine starts in: all zero but for bit 1 of the flags, CR0.ET, the limits
     /// (FFFFh each), and the attributes of present, accessed segments: writable data (93h),
-    /// readable code (9Bh), an LDT (82h) and a busy 32-bit TSS (8Bh). This project's choice.
+    /// readable code (9Bh), an LDT (82h) and a busy 32-bit TSS (8Bh). A processor after RESET runs
+    /// at FFFFFFF0h instead, with CD and NW set and its family in EDX; here each number that no rule
+    /// asks for is 0, so that a program at address 0 runs at once.
     #[tactic(auto, unfolding(crate::specs::Reset::reset_state))]
     pub fn reset() -> Cpu
         ensures { result ≡ reset_state }
@@ -174,21 +192,21 @@ impl Cpu {
     pub fn pe(&self) -> bool
         ensures { result ≡ pe self.now }
     {
-        bit(self.cr0, 0)
+        bit(self.cr0, CR0_PE)
     }
 
     /// CR0.PG: paging is on.
     pub fn pg(&self) -> bool
         ensures { result ≡ pg self.now }
     {
-        bit(self.cr0, 31)
+        bit(self.cr0, CR0_PG)
     }
 
     /// EFER.LMA: 64-bit or compatibility mode is active.
     pub fn lma(&self) -> bool
         ensures { result ≡ lma self.now }
     {
-        bit(self.efer, 10)
+        bit(self.efer, EFER_LMA)
     }
 
     /// The mode of operation.
@@ -327,9 +345,9 @@ impl Cpu {
         ensures { result ≡ cr0_is_valid self.now }
     {
         only(0xE005_003F, self.cr0)
-            && bit(self.cr0, 4)
+            && bit(self.cr0, CR0_ET)
             && (!self.pg() || self.pe())
-            && (!bit(self.cr0, 29) || bit(self.cr0, 30))
+            && (!bit(self.cr0, CR0_NW) || bit(self.cr0, CR0_CD))
     }
 
     /// Known bits alone.
@@ -343,8 +361,8 @@ impl Cpu {
     fn efer_is_valid(&self) -> bool
         ensures { result ≡ efer_is_valid self.now }
     {
-        let is_active = bit(self.efer, 8) && self.pg();
-        only(0xD01, self.efer) && is_active == self.lma() && (!self.lma() || bit(self.cr4, 5))
+        let is_active = bit(self.efer, EFER_LME) && self.pg();
+        only(0xD01, self.efer) && is_active == self.lma() && (!self.lma() || bit(self.cr4, CR4_PAE))
     }
 
     /// CR3 has 40 bits, CR8 four.

@@ -22,7 +22,8 @@ fn cut(value: u64, size: u8) -> u64
         1 => value % (1 << 8),
         2 => value % (1 << 16),
         4 => value % (1 << 32),
-        _ => value,
+        8 => value,
+        _ => unreachable!(),
     }
 }
 
@@ -59,8 +60,8 @@ impl Cpu {
 
     /// Writes a general register at a width of 1, 2, 4 or 8 bytes. Writes of 8 and 16 bits keep the
     /// rest of the register; one of 32 bits clears its upper half in 64-bit mode and keeps it
-    /// elsewhere (SDM volume 1, "General-Purpose Registers in 64-Bit Mode"; elsewhere this project's
-    /// choice).
+    /// elsewhere (SDM volume 1, "General-Purpose Registers in 64-Bit Mode"). Outside 64-bit mode no
+    /// instruction sees the upper half, and the SDM leaves open what it is afterwards: here it stays.
     #[tactic(auto, unfolding(crate::specs::Registers::with_register))]
     pub fn set_register(&mut self, size: u8, has_rex: bool, index: u8, value: u64)
         requires size { IsTrue (is_size size) }

@@ -102,6 +102,7 @@ fn tells_the_mode(rt: HostRuntime) -> Result<(), Fail> {
         1
     );
     assert_eq!(rt; start.segment(SegName::Cs).attr, 0x9B);
+    assert_eq!(rt; SegName::Gs.number(), 5);
     assert!(rt; start.is_canonical(0xFFFF_8000_0000_0000) & !start.is_canonical(0x8000_0000_0000));
     assert!(rt; start.is_base(0x7FFF_FFFF_FFFF) & !start.is_base(1 << 63));
     assert_eq!(rt; start.address_bits(), 32);

@@ -114,34 +114,15 @@ fn with_digit_borrowed(ax: u16, low: bool) -> u16
     (less / 256 + 255) % 256 * 256 + less % 256
 }
 
-/// AAA.
-#[tactic(auto, unfolding(crate::specs::Decimals::bcd_result, crate::specs::Decimals::bcd_status))]
-fn ascii_sum(ax: u16, old: Status) -> (u16, Status)
-    ensures ax { result.0 ≡ bcd_result BcdOp.Aaa ax 0 old }
-    ensures status { result.1 ≡ bcd_status BcdOp.Aaa ax result.0 old }
+/// What AAA and AAS say: whether the digit was corrected.
+fn digit_status(low: bool, old: Status) -> Status
+    ensures { result ≡ record old { carry = low; adjust = low } }
 {
-    let low = is_low_corrected(ax % 256, old);
-    let status = Status {
+    Status {
         carry: low,
         adjust: low,
         ..old
-    };
-    (cut_to_digit(with_digit_carried(ax, low)), status)
-}
-
-/// AAS.
-#[tactic(auto, unfolding(crate::specs::Decimals::bcd_result, crate::specs::Decimals::bcd_status))]
-fn ascii_difference(ax: u16, old: Status) -> (u16, Status)
-    ensures ax { result.0 ≡ bcd_result BcdOp.Aas ax 0 old }
-    ensures status { result.1 ≡ bcd_status BcdOp.Aas ax result.0 old }
-{
-    let low = is_low_corrected(ax % 256, old);
-    let status = Status {
-        carry: low,
-        adjust: low,
-        ..old
-    };
-    (cut_to_digit(with_digit_borrowed(ax, low)), status)
+    }
 }
 
 /// AAM.
@@ -183,11 +164,18 @@ fn outcome(op: BcdOp, ax: u16, imm: u8, old: Status) -> (u16, Status)
     ensures ax { result.0 ≡ bcd_result op ax imm old }
     ensures status { result.1 ≡ bcd_status op ax result.0 old }
 {
+    let low = is_low_corrected(ax % 256, old);
     match op {
         BcdOp::Daa => decimal_sum(ax, old),
         BcdOp::Das => decimal_difference(ax, old),
-        BcdOp::Aaa => ascii_sum(ax, old),
-        BcdOp::Aas => ascii_difference(ax, old),
+        BcdOp::Aaa => (
+            cut_to_digit(with_digit_carried(ax, low)),
+            digit_status(low, old),
+        ),
+        BcdOp::Aas => (
+            cut_to_digit(with_digit_borrowed(ax, low)),
+            digit_status(low, old),
+        ),
         BcdOp::Aam => digits(ax, imm, old),
         BcdOp::Aad => number(ax, imm, old),
     }

@@ -1,5 +1,5 @@
 use Rattle.std.proofs.Common.{ℕ, zero, suc, ◌≡◌, ◌<◌, ◌≤◌, ◌+◌, ◌-◌, ◌*◌, ◌/◌, ◌%◌, ◌^◌, ◌==◌, ◌&&◌, ◌||◌, List, length, get_or, set, refl, sym, ap, ◌∙◌, arith, true, false, Bool, nat_le, nat_lt, inl, inr, bit_and, bit_or, replicate, if◌then◌else◌}
-use Rattle.std.specs.Int.{bit_at}
+use Rattle.std.specs.Int.{bit_at, from_bool}
 use Rattle.std.specs.Prelude.{min, max}
 use Rattle.std.proofs.lemmas.Bool.{cases_lt, cases_eq, le-leb, lt-leb, lt-ltb, le-ltb, eq-eqb, ne_eqb}
 use Rattle.std.proofs.lemmas.List.{get_or-set_same, get_or-set_other, get_or-replicate}
@@ -9,10 +9,9 @@ use Rattle.std.specs.Cmp.{nat_cmp_total, unsigned_tied}
 use Rattle.std.specs.FinSet.{empty, insert, contains, union, contains-empty, contains-insert, contains-union, same_set, nat_cmp-IsAntisymmetric}
 use Rattle.xe_icpt.specs.Ports.{Ports, ports_from, ports_between, has_one_of}
 use Rattle.xe_icpt.specs.PortBitmap.{port_bit, ports_below, ports_of}
-use Rattle.xe_icpt.specs.SvmSet.{flag}
 
 -- the word that has the bits from one to another
-pub mask-bits : (from to i : ℕ) → from ≤ to → to < 64 → i < 64 → bit_at (bit_and (18446744073709551615 * 2 ^ from % 18446744073709551616) (18446744073709551615 / 2 ^ (63 - to))) i ≡ flag (nat_le from i && nat_le i to)
+pub mask-bits : (from to i : ℕ) → from ≤ to → to < 64 → i < 64 → bit_at (bit_and (18446744073709551615 * 2 ^ from % 18446744073709551616) (18446744073709551615 / 2 ^ (63 - to))) i ≡ from_bool (nat_le from i && nat_le i to)
 mask-bits from to i order within small =
     let e : 64 - (63 - to) ≡ to + 1 = omega arith in
     let a : 18446744073709551615 * 2 ^ from % 18446744073709551616 ≡ 2 ^ 64 - 2 ^ from = ones_shl 64 from (omega arith) in
@@ -131,7 +130,7 @@ one-found ports port n (suc m) l h = elim (cases_eq n m) [
 
 -- Ports from one to another, a word at a time.
 
-or-bit : (b : ℕ) (c : Bool) → b < 2 → (max b (flag c) == 1) ≡ (b == 1 || c)
+or-bit : (b : ℕ) (c : Bool) → b < 2 → (max b (from_bool c) == 1) ≡ (b == 1 || c)
 or-bit zero true h = refl
 or-bit zero false h = refl
 or-bit (suc zero) true h = refl
@@ -148,7 +147,7 @@ in-word low high w port e up = elim (cases_lt port low) [
   ]
 ]
 
-pub set-word : (old : Bool) (ports : List ℕ) (low high w port m : ℕ) → w < length ports → 64 * w ≤ high → bit_at m (port % 64) ≡ flag (nat_le (low - 64 * w) (port % 64) && nat_le (port % 64) (min (high - 64 * w) 63)) → port_bit ports port ≡ (old || (nat_le low port && (nat_le port high && nat_lt (port / 64) w))) → port_bit (set ports w (bit_or (get_or ports w 0) m)) port ≡ (old || (nat_le low port && (nat_le port high && nat_lt (port / 64) (w + 1))))
+pub set-word : (old : Bool) (ports : List ℕ) (low high w port m : ℕ) → w < length ports → 64 * w ≤ high → bit_at m (port % 64) ≡ from_bool (nat_le (low - 64 * w) (port % 64) && nat_le (port % 64) (min (high - 64 * w) 63)) → port_bit ports port ≡ (old || (nat_le low port && (nat_le port high && nat_lt (port / 64) w))) → port_bit (set ports w (bit_or (get_or ports w 0) m)) port ≡ (old || (nat_le low port && (nat_le port high && nat_lt (port / 64) (w + 1))))
 unfolding port_bit
 set-word old ports low high w port m fits up mask was = elim (cases_eq (port / 64) w) [
   | inl e ↦

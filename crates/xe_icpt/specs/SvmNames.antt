@@ -1,7 +1,7 @@
 use Rattle.std.specs.Prelude.{ℕ, ◌*◌, List, [], ◌∷◌, codes, Option}
 use Rattle.bitflags.specs.Sets.{find_name}
 
--- the names of the SVM intercepts with their exit codes (AMD64 APM volume 2, appendix "SVM Intercept Exit Codes"; the names are this project's)
+-- the names of the SVM intercepts with their exit codes (AMD64 APM volume 2, appendix "SVM Intercept Exit Codes"; the names are the words that a scenario has for them)
 abbrev pub svm_codes : List (List ℕ × ℕ)
 svm_codes =
     (codes "read_cr0", 0x00) ∷

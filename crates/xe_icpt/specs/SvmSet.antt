@@ -2,6 +2,7 @@ use Rattle.std.specs.Prelude.{ℕ, ◌+◌, ◌*◌, ◌==◌, List, [], ◌∷�
 use Rattle.std.specs.List.{list_any}
 use Rattle.std.specs.Option.{option_map}
 use Rattle.std.specs.Int.RustNames.{bit_and}
+use Rattle.std.proofs.Math.Bool.{beq}
 use Rattle.std.specs.Coded.{Coded, code_by, coded×, coded_ℕ, coded_bool, coded_list}
 use Rattle.std.specs.FinSet.{code}
 use Rattle.xe_icpt.specs.declared.exit.Exit.{Exit}
@@ -11,6 +12,7 @@ use Rattle.xe_icpt.specs.declared.point.TableName.{TableName}
 use Rattle.xe_icpt.specs.declared.point.TableName.TheVariants.{Idtr, Gdtr, Ldtr, Tr}
 use Rattle.xe_icpt.specs.declared.point.Point.{Point}
 use Rattle.xe_icpt.specs.declared.point.Point.TheVariants.{CrRead, CrWrite, Cr0Sel, TableRead, TableWrite, Rdtsc, Pushf, Popf, Cpuid, Iret, Swint, Invd, Pause, Hlt, Invlpg, Io, Msr, Wbinvd}
+use Rattle.std.specs.Int.{from_bool}
 use Rattle.xe_icpt.specs.Ports.{Ports, has_one_of}
 use Rattle.xe_icpt.specs.SvmNames.{svm_bit, svm_code}
 
@@ -36,38 +38,28 @@ abbrev pub has_name : Svm → Option ℕ → Bool
 has_name set (Some bits) = bit_and set.names bits == bits
 has_name set None = false
 
--- two directions are the same
-abbrev pub same_way : Bool → Bool → Bool
-same_way true b = b
-same_way false true = false
-same_way false false = true
-
 -- the MSR is in the list with this direction
 abbrev pub has_msr : List MsrPair → ℕ → Bool → Bool
-has_msr msrs number write = list_any (λ m. (m.number == number) && same_way m.write write) msrs
-
--- 1 for what holds
-abbrev pub flag : Bool → ℕ
-flag true = 1
-flag false = 0
+has_msr msrs number write = list_any (λ m. (m.number == number) && beq m.write write) msrs
 
 -- a control register's number as the digit at the end of its name
 abbrev pub digit : ℕ → List ℕ
 digit n = (48 + n) ∷ []
 
-abbrev pub register : TableName → List ℕ
-register Idtr = codes "idtr"
-register Gdtr = codes "gdtr"
-register Ldtr = codes "ldtr"
-register Tr = codes "tr"
+-- a table register as the end of its name
+abbrev pub table_name : TableName → List ℕ
+table_name Idtr = codes "idtr"
+table_name Gdtr = codes "gdtr"
+table_name Ldtr = codes "ldtr"
+table_name Tr = codes "tr"
 
 -- the name that intercepts a point
 abbrev pub svm_name : Point → List ℕ
 svm_name (CrRead n reg) = codes "read_cr" ++ digit n
 svm_name (CrWrite n reg kind value mem) = codes "write_cr" ++ digit n
 svm_name Cr0Sel = codes "cr0_sel"
-svm_name (TableRead t) = codes "read_" ++ register t
-svm_name (TableWrite t) = codes "write_" ++ register t
+svm_name (TableRead t) = codes "read_" ++ table_name t
+svm_name (TableWrite t) = codes "write_" ++ table_name t
 svm_name Rdtsc = codes "rdtsc"
 svm_name Pushf = codes "pushf"
 svm_name Popf = codes "popf"
@@ -90,12 +82,12 @@ svm_asks set _ = true
 
 -- EXITINFO1 of a port access (AMD64 APM volume 2, "IN, OUT and INS, OUTS intercepts"): the direction in bit 0, string in 2, REP in 3, the size as bit 4, 5 or 6, the address size as bit 7, 8 or 9, the segment in 12:10, the port in 31:16
 abbrev pub io_word : ℕ → ℕ → Bool → Bool → Bool → ℕ → ℕ → ℕ
-io_word port size input string rep adsize seg = flag input + 4 * flag string + 8 * flag rep + 16 * size + 64 * adsize + 1024 * seg + 65536 * port
+io_word port size input string rep adsize seg = from_bool input + 4 * from_bool string + 8 * from_bool rep + 16 * size + 64 * adsize + 1024 * seg + 65536 * port
 
 -- the exit with this code at a point: words of information for ports and MSRs alone
 abbrev pub svm_exit : Point → ℕ → Exit
 svm_exit (Io port size input string rep imm adsize seg next) code = record { code = code; info1 = io_word port size input string rep adsize seg; info2 = next }
-svm_exit (Msr number write) code = record { code = code; info1 = flag write; info2 = 0 }
+svm_exit (Msr number write) code = record { code = code; info1 = from_bool write; info2 = 0 }
 svm_exit p code = record { code = code; info1 = 0; info2 = 0 }
 
 -- the exit that a set of SVM intercepts takes at a point, if it takes one

@@ -85,7 +85,8 @@ pub enum Point {
         imm: bool,
         /// The address size in bytes.
         adsize: u8,
-        /// The number of the segment: ES for INS, that of the source for OUTS, 0 for IN and OUT.
+        /// The number of the segment, as by `number` of `xe_base::SegName`: ES for INS, that of the
+        /// source for OUTS, 0 for IN and OUT.
         seg: u8,
         /// The offset of the next instruction, also in an element of a repeated one: RIP plus the
         /// length, modulo 2^64 in 64-bit code and 2^32 elsewhere.

@@ -2,10 +2,9 @@
 
 ghost use Rattle.std.specs.Prelude.{◌≡◌, ℕ, ◌<◌, ◌≤◌, ◌||◌, ◌&&◌, nat_le};
 ghost use Rattle.std.specs.FinSet.{contains, empty, union};
-ghost use Rattle.std.specs.Int.{bit_at};
+ghost use Rattle.std.specs.Int.{bit_at, from_bool};
 ghost use Rattle.xe_icpt.specs.PortBitmap.{port_bit, ports_of};
 ghost use Rattle.xe_icpt.specs.Ports.{has_one_of, ports_between};
-ghost use Rattle.xe_icpt.specs.SvmSet.{flag};
 
 /// The bitmap without a port.
 #[tactic(auto, using(crate::proofs::PortLaws::no_ports))]
@@ -27,7 +26,7 @@ fn has_port(ports: &[u64; 1024], port: u16) -> bool
 fn mask(from: u16, to: u16) -> u64
     requires order { from ≤ to }
     requires within { to < 64 }
-    ensures { (i : ℕ) → i < 64 → bit_at result i ≡ flag (nat_le from i && nat_le i to) }
+    ensures { (i : ℕ) → i < 64 → bit_at result i ≡ from_bool (nat_le from i && nat_le i to) }
 {
     (u64::MAX << from) & (u64::MAX >> (63 - to))
 }

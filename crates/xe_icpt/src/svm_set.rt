@@ -24,9 +24,10 @@ pub struct MsrPair {
 /// A set of SVM intercepts: names, a bitmap of the 65,536 ports, and at most 64 pairs of an MSR
 /// and a direction.
 ///
-/// Ports and pairs matter where the names IOIO and MSR are set. An MSR that isn't listed is never
-/// intercepted, and the bitmap has no bits past port FFFFh, so that later bytes of an access count
-/// as port 0 and up (both this project's choice).
+/// Ports and pairs matter where the names IOIO and MSR are set. The processor's maps have more: bits
+/// for three ports past FFFFh, and an MSR outside their ranges exits always. Here there are 65,536
+/// ports and the listed pairs alone, so that a scenario can name all that exits: a byte of an access
+/// past port FFFFh counts as port 0 and up, and an MSR that isn't listed is never intercepted.
 #[derive(Drop)]
 pub struct SvmSet {
     names: SvmName,

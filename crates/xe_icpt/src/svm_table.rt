@@ -4,7 +4,7 @@ ghost use Rattle.std.specs.Prelude.{◌≡◌, ◌++◌, Some, codes};
 ghost use Rattle.std.specs.Option.{option_map};
 ghost use Rattle.xe_icpt.specs.Points.{IsControl, IsPoint};
 ghost use Rattle.xe_icpt.specs.SvmNames.{svm_bit, svm_code};
-ghost use Rattle.xe_icpt.specs.SvmSet.{svm_name, svm_exit, bits_of, digit, io_word, register};
+ghost use Rattle.xe_icpt.specs.SvmSet.{svm_name, svm_exit, bits_of, digit, io_word, table_name};
 
 use crate::exit::Exit;
 use crate::point::{Point, TableName};
@@ -42,7 +42,7 @@ fn write_name(n: u8) -> SvmName
 
 /// The name that intercepts a store of a table register.
 fn read_table(t: TableName) -> SvmName
-    ensures { svm_bit (codes "read_" ++ register t) ≡ Some (bits_of result) }
+    ensures { svm_bit (codes "read_" ++ table_name t) ≡ Some (bits_of result) }
 {
     match t {
         TableName::Idtr => SvmName::READ_IDTR,
@@ -54,7 +54,7 @@ fn read_table(t: TableName) -> SvmName
 
 /// The name that intercepts a load of a table register.
 fn write_table(t: TableName) -> SvmName
-    ensures { svm_bit (codes "write_" ++ register t) ≡ Some (bits_of result) }
+    ensures { svm_bit (codes "write_" ++ table_name t) ≡ Some (bits_of result) }
 {
     match t {
         TableName::Idtr => SvmName::WRITE_IDTR,
@@ -93,7 +93,7 @@ pub(crate) fn name_of(p: &Point) -> SvmName
 
 /// The exit code of a store of a table register.
 fn read_table_code(t: TableName) -> u32
-    ensures { svm_code (codes "read_" ++ register t) ≡ Some result }
+    ensures { svm_code (codes "read_" ++ table_name t) ≡ Some result }
 {
     match t {
         TableName::Idtr => 0x66,
@@ -105,7 +105,7 @@ fn read_table_code(t: TableName) -> u32
 
 /// The exit code of a load of a table register.
 fn write_table_code(t: TableName) -> u32
-    ensures { svm_code (codes "write_" ++ register t) ≡ Some result }
+    ensures { svm_code (codes "write_" ++ table_name t) ≡ Some result }
 {
     match t {
         TableName::Idtr => 0x6a,
