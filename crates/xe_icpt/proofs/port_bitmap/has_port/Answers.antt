@@ -1,4 +1,4 @@
-use Rattle.std.proofs.Common.{◌∙◌, refl, sym, arith}
+use Rattle.std.proofs.Common.{sym, arith}
 use Rattle.std.proofs.lemmas.Nat.Bits.{shr_and_one}
 use Rattle.xe_icpt.specs.PortBitmap.{port_bit}
 use Rattle.xe_icpt.proofs.PortLaws.{contains-ports}
