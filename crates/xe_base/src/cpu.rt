@@ -70,18 +70,34 @@ pub struct BadState {
     pub rule: u8,
 }
 
-/// The bits of CR0, CR4 and EFER that the modes and the rules look at.
+/// The bit of CR0 for protection.
 const CR0_PE: u32 = 0;
+
+/// The bit of CR0 that is always set (extension type).
 const CR0_ET: u32 = 4;
+
+/// The bit of CR0 against write-through (not write-through).
 const CR0_NW: u32 = 29;
+
+/// The bit of CR0 against caching (cache disable).
 const CR0_CD: u32 = 30;
+
+/// The bit of CR0 for paging.
 const CR0_PG: u32 = 31;
+
+/// The bit of CR4 for physical address extension.
 const CR4_PAE: u32 = 5;
+
+/// The bit of EFER that enables long mode.
 const EFER_LME: u32 = 8;
+
+/// The bit of EFER for long mode being active.
 const EFER_LMA: u32 = 10;
 
-/// The bits of a segment's attributes that say what its code is.
+/// The bit of a segment's attributes for 64-bit code.
 const ATTR_L: u32 = 9;
+
+/// The bit of a segment's attributes for 32 bits.
 const ATTR_DB: u32 = 10;
 
 /// A segment of writable data at address 0, with 64 KiB.
