@@ -77,17 +77,6 @@ impl Cpu {
         }
     }
 
-    /// The registers with one general register written, as by [`Cpu::set_register`].
-    pub fn with_register(&self, size: u8, has_rex: bool, index: u8, value: u64) -> Cpu
-        requires size { IsTrue (is_size size) }
-        requires index { index < 16 }
-        ensures { result ≡ with_register self.now size has_rex index value }
-    {
-        let mut cpu = *self;
-        cpu.set_register(size, has_rex, index, value);
-        cpu
-    }
-
     /// What a general register holds after a write.
     fn written(&self, size: u8, old: u64, value: u64) -> u64
         requires { IsTrue (is_size size) }

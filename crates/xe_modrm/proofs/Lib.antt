@@ -2,3 +2,4 @@ pub mod PrefixLaws
 pub mod ReaderLaws
 pub mod PartLaws
 pub mod ValidLaws
+pub mod OperandLaws

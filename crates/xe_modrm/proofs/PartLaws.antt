@@ -1,4 +1,4 @@
-use Rattle.std.proofs.Common.{◌≡◌, ℕ, Bool, true, false, List, [], ◌∷◌, ◌++◌, length, take, get_or, ◌<◌, ◌≤◌, ◌+◌, refl, arith, sym, ◌∙◌, ap, cond, length-append, length-take, nat_lt}
+use Rattle.std.proofs.Common.{lit<, ◌≡◌, ℕ, Bool, true, false, List, [], ◌∷◌, ◌++◌, length, take, get_or, ◌<◌, ◌≤◌, ◌+◌, refl, arith, sym, ◌∙◌, ap, cond, length-append, length-take, nat_lt}
 use Rattle.std.specs.List.{prefix_len}
 use Rattle.std.proofs.lemmas.Bool.{ltb-true, lt-ltb}
 use Rattle.std.proofs.lemmas.List.Sums.{prefix_len_is, prefix_len_passes, prefix_len_stops}
@@ -7,7 +7,8 @@ use Rattle.xe_base.specs.declared.cpu.CodeSize.{CodeSize}
 use Rattle.xe_base.specs.declared.cpu.CodeSize.TheVariants.{B16, B32, B64}
 use Rattle.xe_modrm.specs.declared.part.Part.TheVariants.{Got, More}
 use Rattle.xe_modrm.specs.declared.part.Prefixes.{Prefixes}
-use Rattle.xe_modrm.specs.Reader.{given, some_bytes}
+use Rattle.std.proofs.lemmas.List.Elements.{All-replicate}
+use Rattle.xe_modrm.specs.Reader.{AreBytes, given, some_bytes}
 use Rattle.xe_modrm.specs.Prefix.{is_prefix, prefix_part, prefixes_of}
 use Rattle.xe_modrm.specs.Operand.{operand_after, operand_part, sib_part, disp_part, signed_of}
 use Rattle.xe_modrm.proofs.ReaderLaws.{IsReader, LooksAhead, both_reader, given_reader, one_reader, some_reader}
@@ -39,6 +40,9 @@ prefix_ends : (p : ℕ → Bool) (xs : List ℕ) → p 0 ≡ false → prefix_le
 prefix_ends p [] e = rw e (omega arith)
 prefix_ends p (x ∷ xs) e = elim (p x) as (λ b. cond b (1 + prefix_len p (xs ++ 0 ∷ [])) 0 < length (x ∷ xs ++ 0 ∷ [])) [ true ↦ omega (arith, prefix_ends p xs e) | false ↦ omega arith ]
 
+zero_byte : AreBytes (0 ∷ [])
+zero_byte = All-replicate (λ b. b < 256) 1 0 (lit< tt)
+
 pub prefix_ahead : (size : CodeSize) → LooksAhead (prefix_part size)
 unfolding prefix_part
 prefix_ahead size = record {
@@ -54,14 +58,14 @@ prefix_ahead size = record {
             let value : prefixes_of size (take n xs) ≡ v = ap (λ (k : ℕ). prefixes_of size (take k xs)) (sym r.2) ∙ r.1 in
             rw (same, lt-ltb n (length (take (n + 1) xs ++ ys)) long, front) (ap (λ u. Got u n) value);
       };
-  goes_on = λ xs. (0 ∷ [], rw (lt-ltb (prefix_len (is_prefix size) (xs ++ 0 ∷ [])) (length (xs ++ 0 ∷ [])) (prefix_ends (is_prefix size) xs (zero_ends size))) tt);
+  goes_on = λ xs. (0 ∷ [], zero_byte, rw (lt-ltb (prefix_len (is_prefix size) (xs ++ 0 ∷ [])) (length (xs ++ 0 ∷ [])) (prefix_ends (is_prefix size) xs (zero_ends size))) tt);
 }
 
-sib_reader : (b : Bool) → IsReader (sib_part b)
+pub sib_reader : (b : Bool) → IsReader (sib_part b)
 sib_reader true = one_reader
 sib_reader false = given_reader 0
 
-disp_reader : (n : ℕ) → IsReader (disp_part n)
+pub disp_reader : (n : ℕ) → IsReader (disp_part n)
 disp_reader n = both_reader (some_bytes n) (λ ds. given (signed_of ds)) (some_reader n) (λ ds. given_reader (signed_of ds))
 
 pub after_reader : (size : CodeSize) (pre : Prefixes) (m : ℕ) → IsReader (operand_after size pre m)

@@ -1,9 +1,9 @@
-use Rattle.std.specs.Prelude.{ℕ, Bool, ◌+◌, ◌*◌, ◌^◌, ◌==◌, ◌||◌, ℤ, pos, ◌+ℤ◌, Option, Some, None, if◌then◌else◌, slice_index, IfSome, ◌<◌, ◌≤◌}
+use Rattle.std.specs.Prelude.{ℕ, ◌+◌, ◌*◌, ◌==◌, ◌||◌, ℤ, pos, ◌+ℤ◌, Option, Some, None, if◌then◌else◌, slice_index, IfSome, ◌<◌, ◌≤◌}
 use Rattle.xe_base.specs.Words.{wrapped}
-use Rattle.xe_base.specs.Registers.{next_rip}
 use Rattle.xe_base.specs.declared.cpu.Cpu.{Cpu}
 use Rattle.xe_base.specs.declared.segment.SegName.{SegName}
 use Rattle.xe_base.specs.declared.segment.SegName.TheVariants.{Ds, Ss}
+use Rattle.xe_modrm.specs.Register.{sp, bp}
 use Rattle.xe_modrm.specs.declared.part.Prefixes.{Prefixes}
 use Rattle.xe_modrm.specs.declared.part.ModRm.{ModRm}
 
@@ -25,13 +25,14 @@ effective_offset m adsize cpu next = wrapped (8 * adsize) (address_sum m cpu nex
 -- BP and SP in all their widths select the stack segment
 abbrev pub default_segment : Option ℕ → SegName
 default_segment None = Ds
-default_segment (Some r) = if r == 4 || r == 5 then Ss else Ds
+default_segment (Some r) = if r == sp || r == bp then Ss else Ds
 
--- unless a segment prefix counts
+-- the segment of a prefix, or another where there is none
 abbrev pub or_segment : Option SegName → SegName → SegName
 or_segment None other = other
 or_segment (Some s) other = s
 
+-- the segment of the operand: that of the prefix, where one counts
 abbrev pub effective_segment : Prefixes → ModRm → SegName
 effective_segment pre m = or_segment pre.seg (default_segment m.base)
 

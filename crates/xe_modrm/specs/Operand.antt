@@ -1,5 +1,7 @@
-use Rattle.std.specs.Prelude.{ℕ, Bool, true, false, ◌+◌, ◌*◌, ◌/◌, ◌%◌, ◌^◌, ◌==◌, ◌||◌, ◌&&◌, not, nat_lt, List, [], ◌∷◌, Option, Some, None, ℤ, pos, if◌then◌else◌, slice_index}
-use Rattle.std.specs.Int.{cast_signed, from_le_bytes, w8, w16, w32}
+use Rattle.std.specs.Prelude.{ℕ, Bool, true, false, length, ◌+◌, ◌*◌, ◌/◌, ◌%◌, ◌^◌, ◌==◌, ◌||◌, ◌&&◌, not, nat_lt, List, [], ◌∷◌, Option, Some, None, ℤ, if◌then◌else◌, slice_index}
+use Rattle.xe_base.specs.Bytes.{num}
+use Rattle.xe_base.specs.Words.{signed}
+use Rattle.xe_modrm.specs.Register.{bx, bp, si, di}
 use Rattle.xe_base.specs.declared.cpu.CodeSize.{CodeSize}
 use Rattle.xe_base.specs.declared.cpu.CodeSize.TheVariants.{B16, B32, B64}
 use Rattle.xe_modrm.specs.Reader.{Reader, ◌>>=◌, given, some_bytes, one_byte}
@@ -44,19 +46,16 @@ disp_len short m sib =
     else (if short then (if rm_of m == 6 then 2 else 0)
     else (if rm_of m == 5 || (rm_of m == 4 && rm_of sib == 5) then 4 else 0))))
 
--- the signed number that 0, 1, 2 or 4 bytes spell
+-- the signed number that the bytes are, the lowest first: of n bytes one of 8 * n bits
 abbrev pub signed_of : List ℕ → ℤ
-signed_of [] = pos 0
-signed_of (a ∷ []) = cast_signed w8 a
-signed_of (a ∷ b ∷ []) = cast_signed w16 (from_le_bytes w16 (a ∷ b ∷ []))
-signed_of (a ∷ b ∷ c ∷ ds) = cast_signed w32 (from_le_bytes w32 (a ∷ b ∷ c ∷ ds))
+signed_of bytes = signed (8 * length bytes) (num bytes)
 
 -- the registers of a 16-bit address by rm: BX+SI, BX+DI, BP+SI, BP+DI, SI, DI, BP, BX
 abbrev pub short_base : ℕ → Option ℕ
-short_base m = if md_of m == 0 && rm_of m == 6 then None else Some (slice_index (3 ∷ 3 ∷ 5 ∷ 5 ∷ 6 ∷ 7 ∷ 5 ∷ 3 ∷ []) (rm_of m))
+short_base m = if md_of m == 0 && rm_of m == 6 then None else Some (slice_index (bx ∷ bx ∷ bp ∷ bp ∷ si ∷ di ∷ bp ∷ bx ∷ []) (rm_of m))
 
 abbrev pub short_index : ℕ → Option ℕ
-short_index m = if nat_lt (rm_of m) 4 then Some (6 + rm_of m % 2) else None
+short_index m = if nat_lt (rm_of m) 4 then Some (if rm_of m % 2 == 0 then si else di) else None
 
 -- the base of a 32-bit or 64-bit address: the register of rm, or with rm 4 that of the SIB byte;
 -- none for number 5 at mod 0, where a displacement stands alone

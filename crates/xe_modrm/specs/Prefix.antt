@@ -9,8 +9,9 @@ use Rattle.xe_modrm.specs.declared.part.Part.TheVariants.{Got, More}
 use Rattle.xe_modrm.specs.declared.part.Prefixes.{Prefixes}
 
 -- Prefixes: SDM volume 2, section 2.1.1; REX, and the prefixes that 64-bit code ignores:
--- section 2.2.1 and volume 1, section 3.4.2.1. That a redundant prefix is ignored, and that of
--- several in one group the last counts, is this project's choice.
+-- section 2.2.1 and volume 1, section 3.4.2.1. The manual leaves open what a prefix does that an
+-- instruction has no use for, and what two of one group do. Here the first is ignored, since the
+-- padding that assemblers write has such prefixes, and of a group the last counts.
 
 abbrev pub is_64_bit : CodeSize → Bool
 is_64_bit B16 = false

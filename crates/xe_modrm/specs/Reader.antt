@@ -1,4 +1,5 @@
-use Rattle.std.specs.Prelude.{ℕ, ◌+◌, ◌≤◌, nat_lt, List, [], ◌∷◌, length, take, drop, if◌then◌else◌}
+use Rattle.std.specs.Prelude.{ℕ, ◌≡◌, ◌+◌, ◌≤◌, ◌<◌, nat_lt, List, [], ◌∷◌, length, take, drop, if◌then◌else◌}
+use Rattle.std.specs.List.{All}
 use Rattle.xe_modrm.specs.declared.part.Part.{Part}
 use Rattle.xe_modrm.specs.declared.part.Part.TheVariants.{Got, More}
 
@@ -34,6 +35,14 @@ some_bytes n bytes = if nat_lt (length bytes) n then More else Got (take n bytes
 abbrev pub one_byte : Reader ℕ
 one_byte [] = More
 one_byte (b ∷ bs) = Got b 1
+
+-- the whole list, and no less of it, is this part
+abbrev pub Decides : {A : Type 0} → Reader A → List ℕ → A → Type 0
+Decides f bytes v = f bytes ≡ Got v (length bytes)
+
+-- numbers that are bytes
+abbrev pub AreBytes : List ℕ → Type 0
+AreBytes xs = All (λ b. b < 256) xs
 
 -- a part takes no more bytes than there are
 abbrev pub Within : {A : Type 0} → Part A → List ℕ → Type 0

@@ -5,6 +5,7 @@ ghost use Rattle.xe_base.specs.Words.{wrapped};
 ghost use Rattle.xe_modrm.specs.Address.{named, address_sum, effective_offset, effective_segment, default_segment, Fits};
 
 use crate::part::{ModRm, Prefixes};
+use crate::register::{BP, SP};
 use xe_base::{Cpu, SegName, Word};
 
 /// The register that a base or an index names, 0 where there is none.
@@ -39,7 +40,8 @@ fn cut(sum: i128, size: u8) -> u64
     match size {
         2 => Word::<16>::wrapped(sum).get(),
         4 => Word::<32>::wrapped(sum).get(),
-        _ => Word::<64>::wrapped(sum).get(),
+        8 => Word::<64>::wrapped(sum).get(),
+        _ => unreachable!(),
     }
 }
 
@@ -55,13 +57,13 @@ pub fn effective_offset(modrm: &ModRm, adsize: u8, cpu: &Cpu, next: u64) -> u64
     cut(address_sum(modrm, cpu, next), adsize)
 }
 
-/// The segment that a base register selects: the stack's for BP and SP in all their widths.
+/// The segment that a base register selects: the stack's for SP and BP in all their widths.
 fn default_segment(base: Option<u8>) -> SegName
     ensures { result ≡ default_segment base }
 {
     match base {
-        Some(4 | 5) => SegName::Ss,
-        _ => SegName::Ds,
+        Some(SP | BP) => SegName::Ss,
+        Some(_) | None => SegName::Ds,
     }
 }
 

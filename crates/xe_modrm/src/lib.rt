@@ -3,13 +3,18 @@
 #![tactic(auto)]
 
 mod address;
-mod front;
+pub mod laws;
 mod modrm;
+mod modrm_byte;
 mod part;
+mod prefix;
+mod register;
+mod sib_byte;
 #[cfg(test)]
 mod tests;
 
 pub use address::{effective_offset, effective_segment};
-pub use front::prefixes;
 pub use modrm::operand;
+pub use modrm_byte::ModRmByte;
 pub use part::{ModRm, Part, Prefixes};
+pub use prefix::prefixes;

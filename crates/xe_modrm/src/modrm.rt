@@ -1,11 +1,18 @@
-ghost use Rattle.std.specs.Prelude.{◌≡◌, ◌≤◌, ◌<◌, ◌^◌, ◌&&◌, length, ◌==◌, ◌||◌, ◌≢◌, IsTrue, IfSome};
-ghost use Rattle.xe_modrm.specs.Reader.{one_byte, some_bytes, given, Within};
+//! The operand of a ModRM byte, with its SIB byte and displacement.
+
+ghost use Rattle.std.specs.Prelude.{◌≡◌, ◌≤◌, ◌<◌, ◌*◌, ◌^◌, ◌==◌, ◌||◌, ◌≢◌, length, IsTrue, IfSome};
+ghost use Rattle.xe_base.specs.Bytes.{num};
+ghost use Rattle.xe_base.specs.Words.{signed};
+ghost use Rattle.xe_modrm.specs.Reader.{one_byte, Within};
 ghost use Rattle.xe_modrm.specs.Operand.{is_short, eight, has_sib, disp_len, sib_part, disp_part, short_base, short_index, long_base, long_index, long_scale, operand_of, operand_after, operand_part};
 ghost use Rattle.xe_modrm.specs.Valid.{IsModRm, IsGotModRm};
 
-use crate::front::is_64_bit;
+use crate::modrm_byte::ModRmByte;
 use crate::part::{ModRm, Part, Prefixes};
-use xe_base::CodeSize;
+use crate::prefix::is_64_bit;
+use crate::register::{BP, BX, DI, SI};
+use crate::sib_byte::SibByte;
+use xe_base::{CodeSize, Word};
 
 /// Whether addresses have 16 bits.
 fn is_short(size: CodeSize, other: bool) -> bool
@@ -30,33 +37,34 @@ fn eight(rex: Option<u8>, k: u32) -> u8
     }
 }
 
-/// Whether a SIB byte follows the ModRM byte m.
-fn has_sib(short: bool, m: u8) -> bool
-    ensures { result ≡ has_sib short m }
+/// Whether a SIB byte follows a ModRM byte.
+fn has_sib(short: bool, m: ModRmByte) -> bool
+    ensures { result ≡ has_sib short m.byte }
 {
-    !short & (m / 64 != 3) & (m % 8 == 4)
+    !short & (m.md() != 3) & (m.rm() == 4)
 }
 
 /// How many bytes the displacement has.
-fn disp_len(short: bool, m: u8, sib: u8) -> usize
-    ensures value { result ≡ disp_len short m sib }
+fn disp_len(short: bool, m: ModRmByte, sib: SibByte) -> usize
+    ensures value { result ≡ disp_len short m.byte sib.byte }
     ensures bound { result ≤ 4 }
     ensures size { result ≢ 3 }
 {
-    let rm = m % 8;
-    match m / 64 {
-        3 => 0,
-        1 => 1,
-        2 => if short { 2 } else { 4 },
-        _ => {
+    let rm = m.rm();
+    match m.md() {
+        0 => {
             if short {
                 if rm == 6 { 2 } else { 0 }
-            } else if rm == 5 || (rm == 4 && sib % 8 == 5) {
+            } else if rm == 5 || (rm == 4 && sib.base() == 5) {
                 4
             } else {
                 0
             }
         }
+        1 => 1,
+        2 => if short { 2 } else { 4 },
+        3 => 0,
+        _ => unreachable!(),
     }
 }
 
@@ -79,7 +87,40 @@ fn sib(wanted: bool, bytes: &[u8]) -> Part<u8>
     if wanted { byte(bytes) } else { Part::Got(0, 0) }
 }
 
-/// The displacement of n bytes, sign-extended.
+/// The number that 0, 1, 2 or 4 bytes are, the lowest first.
+#[tactic(auto, unfolding(xe_base::specs::Bytes::num))]
+fn number(bytes: &[u8]) -> u64
+    requires bound { length bytes.now ≤ 4 }
+    requires size { length bytes.now ≢ 3 }
+    ensures value { result ≡ num bytes.now }
+    ensures range { result < 2 ^ (8 * length bytes.now) }
+{
+    match bytes {
+        [] => 0,
+        [a] => u64::from(*a),
+        [a, b] => u64::from(u16::from_le_bytes([*a, *b])),
+        [a, b, c, d] => u64::from(u32::from_le_bytes([*a, *b, *c, *d])),
+        _ => unreachable!(),
+    }
+}
+
+/// The signed number of 0, 1, 2 or 4 bytes.
+fn signed(n: usize, number: u64) -> i64
+    requires bound { n ≤ 4 }
+    requires size { n ≢ 3 }
+    requires range { number < 2 ^ (8 * n) }
+    ensures { result ≡ signed (8 * n) number }
+{
+    match n {
+        0 => 0,
+        1 => Word::<8>::new(number).signed() as i64,
+        2 => Word::<16>::new(number).signed() as i64,
+        4 => Word::<32>::new(number).signed() as i64,
+        _ => unreachable!(),
+    }
+}
+
+/// The displacement of n bytes, as a signed number of its size.
 fn displacement(n: usize, bytes: &[u8]) -> Part<i64>
     requires bound { n ≤ 4 }
     requires size { n ≢ 3 }
@@ -89,42 +130,36 @@ fn displacement(n: usize, bytes: &[u8]) -> Part<i64>
     if bytes.len() < n {
         return Part::More;
     }
-    let disp = match &bytes[..n] {
-        [] => 0,
-        [a] => i64::from(i8::from_le_bytes([*a])),
-        [a, b] => i64::from(i16::from_le_bytes([*a, *b])),
-        [a, b, c, d] => i64::from(i32::from_le_bytes([*a, *b, *c, *d])),
-        _ => unreachable!(),
-    };
-    Part::Got(disp, n)
+    Part::Got(signed(n, number(&bytes[..n])), n)
 }
 
 /// Base and index of a 16-bit address.
-fn short_registers(m: u8) -> (Option<u8>, Option<u8>)
-    ensures base { result.0 ≡ short_base m }
-    ensures index { result.1 ≡ short_index m }
+fn short_registers(m: ModRmByte) -> (Option<u8>, Option<u8>)
+    ensures base { result.0 ≡ short_base m.byte }
+    ensures index { result.1 ≡ short_index m.byte }
     ensures base_range { IfSome result.0 (λ b. b < 16) }
     ensures index_range { IfSome result.1 (λ i. i < 16) }
 {
-    match m % 8 {
-        0 => (Some(3), Some(6)),
-        1 => (Some(3), Some(7)),
-        2 => (Some(5), Some(6)),
-        3 => (Some(5), Some(7)),
-        4 => (Some(6), None),
-        5 => (Some(7), None),
-        6 => (if m / 64 == 0 { None } else { Some(5) }, None),
-        _ => (Some(3), None),
+    match m.rm() {
+        0 => (Some(BX), Some(SI)),
+        1 => (Some(BX), Some(DI)),
+        2 => (Some(BP), Some(SI)),
+        3 => (Some(BP), Some(DI)),
+        4 => (Some(SI), None),
+        5 => (Some(DI), None),
+        6 => (if m.md() == 0 { None } else { Some(BP) }, None),
+        7 => (Some(BX), None),
+        _ => unreachable!(),
     }
 }
 
 /// The base of a 32-bit or 64-bit address.
-fn long_base(rex: Option<u8>, m: u8, sib: u8) -> Option<u8>
-    ensures value { result ≡ long_base rex m sib }
+fn long_base(rex: Option<u8>, m: ModRmByte, sib: SibByte) -> Option<u8>
+    ensures value { result ≡ long_base rex m.byte sib.byte }
     ensures range { IfSome result (λ b. b < 16) }
 {
-    let named = if m % 8 == 4 { sib % 8 } else { m % 8 };
-    if m / 64 == 0 && named == 5 {
+    let named = if m.rm() == 4 { sib.base() } else { m.rm() };
+    if m.md() == 0 && named == 5 {
         None
     } else {
         Some(named + eight(rex, 0))
@@ -132,29 +167,29 @@ fn long_base(rex: Option<u8>, m: u8, sib: u8) -> Option<u8>
 }
 
 /// Index and scale of a 32-bit or 64-bit address.
-fn long_index(rex: Option<u8>, m: u8, sib: u8) -> (Option<u8>, u8)
-    ensures index { result.0 ≡ long_index rex m sib }
-    ensures scale { result.1 ≡ long_scale rex m sib }
+fn long_index(rex: Option<u8>, m: ModRmByte, sib: SibByte) -> (Option<u8>, u8)
+    ensures index { result.0 ≡ long_index rex m.byte sib.byte }
+    ensures scale { result.1 ≡ long_scale rex m.byte sib.byte }
     ensures index_range { IfSome result.0 (λ i. i < 16) }
     ensures scale_range { IsTrue (result.1 == 1 || result.1 == 2 || result.1 == 4 || result.1 == 8) }
 {
-    let named = sib / 8 % 8 + eight(rex, 1);
-    if m % 8 != 4 || named == 4 {
+    let named = sib.index() + eight(rex, 1);
+    if m.rm() != 4 || named == 4 {
         return (None, 1);
     }
-    (Some(named), 1 << (sib / 64))
+    (Some(named), sib.scale())
 }
 
 /// What a ModRM byte means together with its SIB byte and displacement.
 #[tactic(auto, unfolding(crate::specs::Operand::operand_of))]
-fn meaning(size: CodeSize, pre: &Prefixes, m: u8, sib: u8, disp: i64) -> ModRm
-    ensures value { result ≡ operand_of size pre.now m sib disp }
+fn meaning(size: CodeSize, pre: &Prefixes, m: ModRmByte, sib: SibByte, disp: i64) -> ModRm
+    ensures value { result ≡ operand_of size pre.now m.byte sib.byte disp }
     ensures valid { IsModRm result }
 {
-    let reg = m / 8 % 8 + eight(pre.rex, 2);
-    let rm = m % 8 + eight(pre.rex, 0);
-    let rip_relative = is_64_bit(size) & (m / 64 == 0) & (m % 8 == 5);
-    let (base, index, scale) = if m / 64 == 3 {
+    let reg = m.reg() + eight(pre.rex, 2);
+    let rm = m.rm() + eight(pre.rex, 0);
+    let rip_relative = is_64_bit(size) & (m.md() == 0) & (m.rm() == 5);
+    let (base, index, scale) = if m.md() == 3 {
         (None, None, 1)
     } else if is_short(size, pre.adsize) {
         let (base, index) = short_registers(m);
@@ -164,7 +199,7 @@ fn meaning(size: CodeSize, pre: &Prefixes, m: u8, sib: u8, disp: i64) -> ModRm
         (long_base(pre.rex, m, sib), index, scale)
     };
     ModRm {
-        md: m / 64,
+        md: m.md(),
         reg,
         rm,
         base,
@@ -175,10 +210,10 @@ fn meaning(size: CodeSize, pre: &Prefixes, m: u8, sib: u8, disp: i64) -> ModRm
     }
 }
 
-/// What follows the ModRM byte m.
+/// What follows a ModRM byte.
 #[tactic(auto, unfolding(crate::specs::Operand::operand_after))]
-fn operand_after(size: CodeSize, pre: &Prefixes, m: u8, bytes: &[u8]) -> Part<ModRm>
-    ensures value { result ≡ operand_after size pre.now m bytes.now }
+fn operand_after(size: CodeSize, pre: &Prefixes, m: ModRmByte, bytes: &[u8]) -> Part<ModRm>
+    ensures value { result ≡ operand_after size pre.now m.byte bytes.now }
     ensures within { Within result bytes.now }
     ensures valid { IsGotModRm result }
 {
@@ -186,6 +221,7 @@ fn operand_after(size: CodeSize, pre: &Prefixes, m: u8, bytes: &[u8]) -> Part<Mo
     let Part::Got(sib, used) = sib(has_sib(short, m), bytes) else {
         return Part::More;
     };
+    let sib = SibByte { byte: sib };
     let rest = &bytes[used..];
     let Part::Got(disp, more) = displacement(disp_len(short, m, sib), rest) else {
         return Part::More;
@@ -210,7 +246,7 @@ pub fn operand(size: CodeSize, pre: &Prefixes, bytes: &[u8]) -> Part<ModRm>
     let Part::Got(m, used) = byte(bytes) else {
         return Part::More;
     };
-    match operand_after(size, pre, m, &bytes[used..]) {
+    match operand_after(size, pre, ModRmByte { byte: m }, &bytes[used..]) {
         Part::Got(modrm, more) => Part::Got(modrm, used + more),
         Part::More => Part::More,
     }

@@ -1,7 +1,9 @@
+//! What reading a part of an instruction answers: the prefixes, and the operand of a ModRM byte.
+
 use xe_base::SegName;
 
 /// A part of an instruction, read at the front of some bytes.
-#[derive(Clone, Copy, Drop, PartialEq, Eq, Debug)]
+#[derive(Clone, Copy, PartialEq, Eq, Debug)]
 pub enum Part<T> {
     /// The part, and how many bytes it takes.
     Got(T, usize),
@@ -11,7 +13,7 @@ pub enum Part<T> {
 
 /// What stands before the opcode of an instruction (SDM volume 2, section 2.1.1, and for REX
 /// section 2.2.1).
-#[derive(Clone, Copy, Drop, PartialEq, Eq, Debug)]
+#[derive(Clone, Copy, PartialEq, Eq, Debug)]
 pub struct Prefixes {
     /// F0 stands among the prefixes.
     pub lock: bool,
@@ -33,7 +35,7 @@ pub struct Prefixes {
 /// With `md` 3 the operand is the register `rm`; otherwise it lies in memory at the sum of `base`,
 /// `index` times `scale` and `disp`, or of `disp` and the next instruction's address where
 /// `rip_relative` is set.
-#[derive(Clone, Copy, Drop, PartialEq, Eq, Debug)]
+#[derive(Clone, Copy, PartialEq, Eq, Debug)]
 pub struct ModRm {
     /// Bits 7:6, 0 to 3.
     pub md: u8,

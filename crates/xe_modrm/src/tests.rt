@@ -1,3 +1,5 @@
+//! What no clause says: each public call once on its happy path.
+
 use crate::{Part, operand, prefixes};
 use std::test::Fail;
 use xe_base::{CodeSize, SegName};

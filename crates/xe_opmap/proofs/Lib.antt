@@ -6,3 +6,4 @@ pub mod PartsLaws
 pub mod RelationLaws
 pub mod NeedLaws
 pub mod AllPartsLaws
+pub mod OutsideLaws

@@ -1,9 +1,10 @@
 use Rattle.std.proofs.Common.{◌≡◌, ℕ, Bool, true, false, List, [], ◌∷◌, drop, length, ◌+◌, ◌/◌, ◌%◌, refl, arith, sym, ◌∙◌, ap}
 use Rattle.std.specs.Prelude.{pos, ◌==◌}
 use Rattle.std.proofs.lemmas.Bool.{le-ltb}
+use Rattle.xe_base.specs.Bytes.{num}
 use Rattle.xe_base.specs.declared.cpu.CodeSize.{CodeSize}
 use Rattle.xe_modrm.specs.declared.part.ModRm.{ModRm}
-use Rattle.xe_opmap.specs.declared.shape.Operand.TheVariants.{Control}
+use Rattle.xe_opmap.specs.declared.form.OperandKind.TheVariants.{Control}
 use Rattle.xe_opmap.specs.Encoding.{operand_rest, modrm_part}
 use Rattle.xe_modrm.specs.declared.part.Part.{Part}
 use Rattle.xe_modrm.specs.declared.part.Part.TheVariants.{Got, More}
@@ -19,15 +20,32 @@ no_disp : (short : Bool) (m sib : ℕ) → m / 64 ≡ 3 → disp_len short m sib
 no_disp short m sib h = rw h refl
 
 disp_none : (bytes : List ℕ) → disp_part 0 bytes ≡ Got (pos 0) 0
+unfolding num
 disp_none bytes = rw (le-ltb (length bytes) 0 (omega arith)) refl
 
--- a register operand is its ModRM byte alone
-register_rest : (size : CodeSize) (pre : Prefixes) (m : ℕ) (bytes : List ℕ) → m / 64 ≡ 3 → operand_after size pre m bytes ≡ Got (operand_of size pre m 0 (pos 0)) 0
+-- an operand with neither SIB byte nor displacement is its ModRM byte alone
+lone_rest : (size : CodeSize) (pre : Prefixes) (m : ℕ) (bytes : List ℕ) → has_sib (is_short size pre.adsize) m ≡ false → disp_len (is_short size pre.adsize) m 0 ≡ 0 → operand_after size pre m bytes ≡ Got (operand_of size pre m 0 (pos 0)) 0
 unfolding operand_after
-register_rest size pre m bytes h =
-    ap (λ (b : Bool). (sib_part b >>= λ sib. disp_part (disp_len (is_short size pre.adsize) m sib) >>= λ disp. given (operand_of size pre m sib disp)) bytes) (no_sib (is_short size pre.adsize) m h)
-    ∙ ap (λ (n : ℕ). after_bytes 0 (continued (disp_part n bytes) bytes (λ disp. given (operand_of size pre m 0 disp)))) (no_disp (is_short size pre.adsize) m 0 h)
+lone_rest size pre m bytes sib disp =
+    ap (λ (b : Bool). (sib_part b >>= λ sib. disp_part (disp_len (is_short size pre.adsize) m sib) >>= λ disp. given (operand_of size pre m sib disp)) bytes) sib
+    ∙ ap (λ (n : ℕ). after_bytes 0 (continued (disp_part n bytes) bytes (λ disp. given (operand_of size pre m 0 disp)))) disp
     ∙ ap (λ p. after_bytes 0 (continued p bytes (λ disp. given (operand_of size pre m 0 disp)))) (disp_none bytes)
+
+-- a register
+pub register_rest : (size : CodeSize) (pre : Prefixes) (m : ℕ) (bytes : List ℕ) → m / 64 ≡ 3 → operand_after size pre m bytes ≡ Got (operand_of size pre m 0 (pos 0)) 0
+register_rest size pre m bytes h = lone_rest size pre m bytes (no_sib (is_short size pre.adsize) m h) (no_disp (is_short size pre.adsize) m 0 h)
+
+-- memory at a register or two, of the ModRM byte 0
+pub memory_rest : (size : CodeSize) (pre : Prefixes) (bytes : List ℕ) → operand_after size pre 0 bytes ≡ Got (operand_of size pre 0 0 (pos 0)) 0
+memory_rest size pre bytes = lone_rest size pre 0 bytes (sib (is_short size pre.adsize)) (disp (is_short size pre.adsize))
+  where
+    sib : (short : Bool) → has_sib short 0 ≡ false
+    sib true = refl
+    sib false = refl
+
+    disp : (short : Bool) → disp_len short 0 0 ≡ 0
+    disp true = refl
+    disp false = refl
 
 pub register_alone : (size : CodeSize) (pre : Prefixes) (m : ℕ) → operand_part size pre ((192 + m % 64) ∷ []) ≡ Got (operand_of size pre (192 + m % 64) 0 (pos 0)) 1
 unfolding operand_part

@@ -5,11 +5,11 @@ use Rattle.std.proofs.lemmas.List.{take_at, drop_at, take-append-drop, length-dr
 use Rattle.xe_modrm.specs.declared.part.Part.TheVariants.{Got}
 use Rattle.xe_base.specs.declared.cpu.CodeSize.{CodeSize}
 use Rattle.xe_opmap.specs.declared.insn.Verdict.{Verdict}
-use Rattle.xe_modrm.specs.Reader.{after_bytes, continued, ◌>>=◌, one_byte}
+use Rattle.xe_modrm.specs.Reader.{Decides, after_bytes, continued, ◌>>=◌, one_byte}
 use Rattle.xe_modrm.specs.Prefix.{is_prefix, prefix_part, prefixes_of}
 use Rattle.xe_opmap.specs.Encoding.{after_first_byte, decode_part}
 use Rattle.xe_opmap.specs.Relations.{HasParts}
-use Rattle.xe_modrm.proofs.ReaderLaws.{Decides, both_got, after_got}
+use Rattle.xe_modrm.proofs.ReaderLaws.{both_got, after_got}
 use Rattle.xe_modrm.proofs.PartLaws.{prefix_got}
 use Rattle.xe_modrm.specs.declared.part.Prefixes.{Prefixes}
 use Rattle.std.proofs.Common.{one-add}

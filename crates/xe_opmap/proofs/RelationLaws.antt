@@ -61,7 +61,7 @@ module _ (size : CodeSize) (xs ys : List ℕ) where
 pub cover : (size : CodeSize) (bytes : List ℕ) → HasFront size bytes ⊎ GoesOn size bytes
 cover size bytes = elim (covers (decode_part size) (decode_reader size) bytes) [
   | inl x ↦ inl (x.0, finished (part.Got x.1 (length (take x.0 bytes))), x.2, encodes_read size (take x.0 bytes) x.1 x.3)
-  | inr x ↦ inr (x.0, finished (part.Got x.1 (length (bytes ++ x.0))), x.2, encodes_read size (bytes ++ x.0) x.1 x.3)
+  | inr x ↦ inr (x.0, finished (part.Got x.1 (length (bytes ++ x.0))), x.2, x.3, encodes_read size (bytes ++ x.0) x.1 x.4)
 ]
 
 -- where nothing is decided no front of the bytes reads as anything

@@ -7,12 +7,12 @@ use Rattle.xe_modrm.specs.declared.part.ModRm.{ModRm}
 use Rattle.xe_modrm.specs.declared.part.Part.TheVariants.{Got}
 use Rattle.xe_opmap.specs.Table.{bad_in_64_bit, needs_reg, cell_at}
 use Rattle.xe_opmap.specs.Immediate.{first_part, second_part}
-use Rattle.xe_opmap.specs.Encoding.{setting_of, opsize_of, adsize_of, has_modrm, modrm_part, ends_outside, is_wrong, group_cell, instruction, with_len}
+use Rattle.xe_opmap.specs.Encoding.{conditions_of, opsize_of, adsize_of, has_modrm, modrm_part, ends_outside, is_wrong, group_cell, instruction, with_len}
 use Rattle.xe_opmap.specs.Relations.{Spells}
-use Rattle.xe_opmap.specs.declared.shape.Cell.{Cell}
-use Rattle.xe_opmap.specs.declared.shape.Cell.TheVariants as cell
-use Rattle.xe_opmap.specs.declared.shape.Shape.{Shape}
-use Rattle.xe_opmap.specs.declared.shape.Operand.{Operand}
+use Rattle.xe_opmap.specs.declared.form.OpcodeCell.{OpcodeCell}
+use Rattle.xe_opmap.specs.declared.form.OpcodeCell.TheVariants as cell
+use Rattle.xe_opmap.specs.declared.form.InsnForm.{InsnForm}
+use Rattle.xe_opmap.specs.declared.form.OperandKind.{OperandKind}
 use Rattle.xe_opmap.specs.declared.insn.Insn.{Insn}
 
 -- An instruction by its parts, as lists one after another (SDM volume 2, figure 2-1).
@@ -28,11 +28,11 @@ head_of [] = 0
 head_of (b ∷ bs) = b
 
 -- the place of an opcode in the maps, by its operand's first byte where the reg field belongs to it
-abbrev pub place_of : CodeSize → Prefixes → ℕ → List ℕ → Cell
-place_of size pre op operand = if needs_reg op then group_cell (setting_of size pre) op (head_of operand) else cell_at (setting_of size pre) op 0
+abbrev pub place_of : CodeSize → Prefixes → ℕ → List ℕ → OpcodeCell
+place_of size pre op operand = if needs_reg op then group_cell (conditions_of size pre) op (head_of operand) else cell_at (conditions_of size pre) op 0
 
 -- the bytes of an operand: ModRM byte, SIB byte and displacement, or none
-abbrev pub IsOperand : CodeSize → Prefixes → Operand → List ℕ → Option ModRm → Type 0
+abbrev pub IsOperand : CodeSize → Prefixes → OperandKind → List ℕ → Option ModRm → Type 0
 IsOperand size pre kind bytes None = bytes ≡ []
 IsOperand size pre kind bytes (Some m) = (modrm_part size pre kind bytes ≡ Got m (length bytes)) × (ends_outside kind m ≡ false)
 
@@ -52,17 +52,17 @@ pub record HasAllParts (size : CodeSize) (bytes : List ℕ) (insn : Insn) : Type
   pub op : ℕ
   pub op_is : IsOpcodeBytes op opcode opcode_rest
   pub allowed : (is_64_bit size && bad_in_64_bit op) ≡ false
-  pub shape : Shape
-  pub place : place_of size pre op operand ≡ cell.Plain shape
+  pub form : InsnForm
+  pub place : place_of size pre op operand ≡ cell.Form form
   pub modrm : Option ModRm
-  pub there : is_some modrm ≡ (needs_reg op || has_modrm shape.operand)
-  pub operand_is : IsOperand size pre shape.operand operand modrm
+  pub there : is_some modrm ≡ (needs_reg op || has_modrm form.operand)
+  pub operand_is : IsOperand size pre form.operand operand modrm
   pub imm : ℕ
-  pub first_is : first_part (opsize_of size pre shape.width) (adsize_of size pre.adsize) shape.imm first ≡ Got imm (length first)
+  pub first_is : first_part (opsize_of size pre form.size) (adsize_of size pre.adsize) form.imm first ≡ Got imm (length first)
   pub imm2 : ℕ
-  pub second_is : second_part shape.imm second ≡ Got imm2 (length second)
-  pub right : is_wrong pre shape modrm ≡ false
-  pub meaning : insn ≡ with_len (instruction size pre op shape modrm imm imm2) (length bytes)
+  pub second_is : second_part form.imm second ≡ Got imm2 (length second)
+  pub right : is_wrong pre form modrm ≡ false
+  pub meaning : insn ≡ with_len (instruction size pre op form modrm imm imm2) (length bytes)
 
 abbrev pub SpelledHasParts : Type 0
 SpelledHasParts = (size : CodeSize) (bytes : List ℕ) (insn : Insn) → Spells size bytes insn → HasAllParts size bytes insn

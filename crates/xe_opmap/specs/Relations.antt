@@ -2,6 +2,7 @@ use Rattle.std.specs.Prelude.{◌≡◌, ◌++◌, ◌≤◌, ◌<◌, ◌⊎◌
 use Rattle.std.specs.List.{list_all}
 use Rattle.xe_base.specs.declared.cpu.CodeSize.{CodeSize}
 use Rattle.xe_modrm.specs.Prefix.{is_prefix, prefixes_of}
+use Rattle.xe_modrm.specs.Reader.{AreBytes}
 use Rattle.xe_modrm.specs.declared.part.Part.TheVariants.{Got}
 use Rattle.xe_opmap.specs.Encoding.{after_first_byte, decode_part, with_len}
 use Rattle.xe_opmap.specs.declared.insn.Insn.{Insn}
@@ -45,13 +46,34 @@ AreApart = (size : CodeSize) (xs ys : List ℕ) (d e : Decoded) → Encodes size
 abbrev pub HasFront : CodeSize → List ℕ → Type 0
 HasFront size bytes = (n : ℕ) × (d : Decoded) × (n ≤ length bytes) × Encodes size (take n bytes) d
 
--- the bytes are a proper front of a list in one of the relations
+-- the bytes, and at least one byte more, are a list in one of the relations
 abbrev pub GoesOn : CodeSize → List ℕ → Type 0
-GoesOn size bytes = (more : List ℕ) × (d : Decoded) × (0 < length more) × Encodes size (bytes ++ more) d
+GoesOn size bytes = (more : List ℕ) × (d : Decoded) × (0 < length more) × AreBytes more × Encodes size (bytes ++ more) d
 
--- each list has a front in one of the relations, or is a proper front of a list in one
+-- each list has a front in one of the relations, or goes on to a list in one
 abbrev pub CoverAll : Type 0
 CoverAll = (size : CodeSize) (bytes : List ℕ) → HasFront size bytes ⊎ GoesOn size bytes
+
+-- the table has the bytes, as an instruction or as an invalid encoding
+abbrev pub IsListed : CodeSize → List ℕ → Type 0
+IsListed size bytes = ((insn : Insn) × Spells size bytes insn) ⊎ Bad size bytes
+
+-- the table has the bytes with at least one byte more
+abbrev pub CanBeListed : CodeSize → List ℕ → Type 0
+CanBeListed size bytes = (more : List ℕ) × (0 < length more) × AreBytes more × IsListed size (bytes ++ more)
+
+-- the table ends with the last of the bytes: it has neither these bytes nor any longer list that
+-- begins with them, and each shorter front of them has a longer list that it has
+pub record LeavesTable (size : CodeSize) (bytes : List ℕ) : Type 0 where
+  pub never : (more : List ℕ) → AreBytes more → IsListed size (bytes ++ more) → ⊥
+  pub before : (front back : List ℕ) → bytes ≡ front ++ back → 0 < length back → CanBeListed size front
+
+-- that is what it means to be outside
+abbrev pub OutsideLeaves : Type 0
+OutsideLeaves = (size : CodeSize) (bytes : List ℕ) → AreBytes bytes → IsOutside size bytes → LeavesTable size bytes
+
+abbrev pub LeavingIsOutside : Type 0
+LeavingIsOutside = (size : CodeSize) (bytes : List ℕ) → AreBytes bytes → LeavesTable size bytes → IsOutside size bytes
 
 -- what an answer of the decoder says of the bytes' front
 abbrev pub Answers : CodeSize → List ℕ → Decoded → Type 0

@@ -10,13 +10,13 @@ use Rattle.xe_modrm.specs.declared.part.ModRm.{ModRm}
 use Rattle.xe_opmap.specs.Encoding.{IsSize, is_control}
 use Rattle.xe_opmap.specs.declared.row.Row.{Row}
 use Rattle.xe_opmap.specs.declared.row.Row.TheVariants as row
-use Rattle.xe_opmap.specs.declared.shape.Shape.{Shape}
-use Rattle.xe_opmap.specs.declared.shape.Operand.{Operand}
-use Rattle.xe_opmap.specs.declared.shape.Operand.TheVariants.{Nothing, Any, Memory, MemoryOnly, FromSegment, ToSegment, Control}
-use Rattle.xe_opmap.specs.declared.shape.Imm.{Imm}
-use Rattle.xe_opmap.specs.declared.shape.Imm.TheVariants as imm
-use Rattle.xe_opmap.specs.declared.shape.Cell.{Cell}
-use Rattle.xe_opmap.specs.declared.shape.Cell.TheVariants as cell
+use Rattle.xe_opmap.specs.declared.form.InsnForm.{InsnForm}
+use Rattle.xe_opmap.specs.declared.form.OperandKind.{OperandKind}
+use Rattle.xe_opmap.specs.declared.form.OperandKind.TheVariants.{Nothing, Any, Memory, MemoryOnly, FromSegment, ToSegment, Control}
+use Rattle.xe_opmap.specs.declared.form.ImmediateKind.{ImmediateKind}
+use Rattle.xe_opmap.specs.declared.form.ImmediateKind.TheVariants as imm
+use Rattle.xe_opmap.specs.declared.form.OpcodeCell.{OpcodeCell}
+use Rattle.xe_opmap.specs.declared.form.OpcodeCell.TheVariants as cell
 use Rattle.xe_opmap.specs.declared.insn.Insn.{Insn}
 use Rattle.xe_opmap.specs.declared.insn.Verdict.{Verdict}
 use Rattle.xe_opmap.specs.declared.insn.Verdict.TheVariants.{Valid, Invalid, Outside}
@@ -29,28 +29,28 @@ use Rattle.xe_opmap.specs.declared.insn.Decoded.TheVariants as decoded
 abbrev pub is_offset : ℕ → Bool
 is_offset op = nat_le 0xA0 op && nat_le op 0xA3
 
-abbrev pub is_address : Imm → Bool
+abbrev pub is_address : ImmediateKind → Bool
 is_address imm.Nothing = false
 is_address imm.Byte = false
 is_address imm.SignedByte = false
-is_address imm.Pair = false
-is_address imm.Full = false
-is_address imm.Whole = false
+is_address imm.Word = false
+is_address imm.SignedOperand = false
+is_address imm.OperandSized = false
 is_address imm.Address = true
-is_address imm.Far = false
-is_address imm.Frame = false
+is_address imm.FarPointer = false
+is_address imm.EnterFrame = false
 
 -- the bytes in which the value of an immediate fits
-abbrev pub imm_width : ℕ → ℕ → Imm → ℕ
+abbrev pub imm_width : ℕ → ℕ → ImmediateKind → ℕ
 imm_width opsize adsize imm.Nothing = opsize
 imm_width opsize adsize imm.Byte = opsize
 imm_width opsize adsize imm.SignedByte = opsize
-imm_width opsize adsize imm.Pair = opsize
-imm_width opsize adsize imm.Full = opsize
-imm_width opsize adsize imm.Whole = opsize
+imm_width opsize adsize imm.Word = opsize
+imm_width opsize adsize imm.SignedOperand = opsize
+imm_width opsize adsize imm.OperandSized = opsize
 imm_width opsize adsize imm.Address = adsize
-imm_width opsize adsize imm.Far = opsize
-imm_width opsize adsize imm.Frame = opsize
+imm_width opsize adsize imm.FarPointer = opsize
+imm_width opsize adsize imm.EnterFrame = opsize
 
 -- what is known of the ModRM operand by the row alone
 pub data Need : Type 0 where
@@ -137,7 +137,7 @@ is_met OfControl None = false
 is_met OfControl (Some m) = m.md == 3 && is_control m.reg
 
 -- an operand of this kind, when it was judged, is what the row needs
-abbrev pub serves : Need → Operand → Bool
+abbrev pub serves : Need → OperandKind → Bool
 serves Unknown Nothing = true
 serves Unknown Any = true
 serves Unknown Memory = true
@@ -182,7 +182,7 @@ serves OfControl ToSegment = false
 serves OfControl Control = true
 
 -- an operand that was read for this kind
-abbrev pub is_kind : Operand → Option ModRm → Bool
+abbrev pub is_kind : OperandKind → Option ModRm → Bool
 is_kind Nothing o = true
 is_kind Any None = false
 is_kind Any (Some m) = true
@@ -198,7 +198,7 @@ is_kind Control None = false
 is_kind Control (Some m) = m.md == 3
 
 -- mod reads as 3 in an operand of MOV CR
-abbrev pub control_fits : Operand → ModRm → Bool
+abbrev pub control_fits : OperandKind → ModRm → Bool
 control_fits Nothing m = true
 control_fits Any m = true
 control_fits Memory m = true
@@ -207,20 +207,20 @@ control_fits FromSegment m = true
 control_fits ToSegment m = true
 control_fits Control m = m.md == 3
 
-abbrev pub IsGotOperand : Operand → Part ModRm → Type 0
+abbrev pub IsGotOperand : OperandKind → Part ModRm → Type 0
 IsGotOperand k (Got m n) = IsModRm m × (control_fits k m ≡ true)
 IsGotOperand k More = Unit {0}
 
--- a shape that belongs to the opcode: it has an address exactly where the opcode is one of the four,
+-- a form that belongs to the opcode: it has an address exactly where the opcode is one of the four,
 -- and its operand serves the row
-pub record IsShapeOf (op : ℕ) (s : Shape) : Type 0 where
+pub record IsFormOf (op : ℕ) (s : InsnForm) : Type 0 where
   pub address : is_address s.imm ≡ is_offset op
   pub serves_row : serves (need_of s.row op) s.operand ≡ true
 
-abbrev pub IsCellOf : ℕ → Cell → Type 0
+abbrev pub IsCellOf : ℕ → OpcodeCell → Type 0
 IsCellOf op cell.Outside = Unit {0}
 IsCellOf op cell.Invalid = Unit {0}
-IsCellOf op (cell.Plain s) = IsShapeOf op s
+IsCellOf op (cell.Form s) = IsFormOf op s
 
 -- the parts of an instruction, but for its length: sizes are 2, 4 or 8, and 8 in 64-bit code
 -- alone; register numbers are below 16, and the operand is what the row needs; an immediate fits

@@ -1,21 +1,23 @@
+//! The decoder: the parts of an instruction one after another, from the prefixes to the verdict.
+
 ghost use Rattle.std.specs.Prelude.{true, ◌≡◌, ◌≤◌, ◌<◌, length};
 ghost use Rattle.xe_modrm.specs.Reader.{Within, one_byte};
 ghost use Rattle.xe_opmap.specs.Table.{bad_in_64_bit, IsOpcode};
 ghost use Rattle.std.specs.Option.{ForSome};
 ghost use Rattle.xe_modrm.specs.Valid.{IsPrefixes, IsModRm};
-ghost use Rattle.xe_opmap.specs.Valid.{is_kind, control_fits, IsShapeOf, IsGotOperand, IsCellOf, IsGotVerdict, TakesSome, IsDecoded};
+ghost use Rattle.xe_opmap.specs.Valid.{is_kind, control_fits, IsFormOf, IsGotOperand, IsCellOf, IsGotVerdict, TakesSome, IsDecoded};
 ghost use Rattle.xe_opmap.specs.Relations.{Answers};
 ghost use Rattle.xe_opmap.specs.Encoding.{immediates_part, modrm_part, operand_row, row_part, is_swapgs, swapgs_cell, group_cell, group_part, cell_part, after_opcode, after_first_byte, decode_part, finished};
 
+use crate::form::{ImmediateKind, InsnForm, MapConditions, OpcodeCell, OperandKind, SizeIn64Bit};
 use crate::immediate::{first, second};
 use crate::insn::{Decoded, Insn, Verdict};
 use crate::judge::{ends_outside, has_modrm, judged};
 use crate::lookup::{cell_at, needs_reg};
 use crate::row::Row;
-use crate::shape::{Cell, Imm, Operand, Setting, Shape, Width};
-use crate::sizes::{adsize_of, is_64_bit, opsize_of, setting_of};
+use crate::sizes::{adsize_of, conditions_of, is_64_bit, opsize_of};
 use xe_base::CodeSize;
-use xe_modrm::{ModRm, Part, Prefixes, operand, prefixes};
+use xe_modrm::{ModRm, ModRmByte, Part, Prefixes, operand, prefixes};
 
 /// The immediates, after which the instruction is judged.
 #[tactic(auto, unfolding(crate::specs::Encoding::immediates_part))]
@@ -23,28 +25,28 @@ fn immediates_part(
     size: CodeSize,
     pre: &Prefixes,
     op: u16,
-    shape: &Shape,
+    form: &InsnForm,
     modrm: Option<ModRm>,
     bytes: &[u8],
 ) -> Part<Verdict>
     requires prefixes { IsPrefixes size pre.now }
     requires opcode { IsOpcode op }
     requires modrm { ForSome modrm IsModRm }
-    requires kind { is_kind shape.now.operand modrm ≡ true }
-    requires shape { IsShapeOf op shape.now }
-    ensures value { result ≡ immediates_part size pre.now op shape.now modrm bytes.now }
+    requires kind { is_kind form.now.operand modrm ≡ true }
+    requires form { IsFormOf op form.now }
+    ensures value { result ≡ immediates_part size pre.now op form.now modrm bytes.now }
     ensures within { Within result bytes.now }
     ensures valid { IsGotVerdict size result }
 {
-    let opsize = opsize_of(size, pre, shape.width);
+    let opsize = opsize_of(size, pre, form.size);
     let adsize = adsize_of(size, pre.adsize);
-    let Part::Got(imm, used) = first(opsize, adsize, shape.imm, bytes) else {
+    let Part::Got(imm, used) = first(opsize, adsize, form.imm, bytes) else {
         return Part::More;
     };
-    let Part::Got(imm2, more) = second(shape.imm, &bytes[used..]) else {
+    let Part::Got(imm2, more) = second(form.imm, &bytes[used..]) else {
         return Part::More;
     };
-    Part::Got(judged(size, pre, op, shape, modrm, imm, imm2), used + more)
+    Part::Got(judged(size, pre, op, form, modrm, imm, imm2), used + more)
 }
 
 /// One byte.
@@ -62,13 +64,14 @@ fn byte(bytes: &[u8]) -> Part<u8>
 /// The operand of MOV to and from control registers, whose mod is read as 3.
 #[tactic(auto, unfolding(crate::specs::Encoding::modrm_part))]
 fn control_operand(size: CodeSize, pre: &Prefixes, bytes: &[u8]) -> Part<ModRm>
-    ensures value { result ≡ modrm_part size pre.now Operand.Control bytes.now }
+    ensures value { result ≡ modrm_part size pre.now OperandKind.Control bytes.now }
     ensures within { Within result bytes.now }
-    ensures valid { IsGotOperand Operand.Control result }
+    ensures valid { IsGotOperand OperandKind.Control result }
 {
     let Part::Got(m, used) = byte(bytes) else {
         return Part::More;
     };
+    // Bits 7:6, which are mod, are set.
     match operand(size, pre, &[0xC0 + m % 64]) {
         Part::Got(modrm, _) => Part::Got(modrm, used),
         Part::More => Part::More,
@@ -77,19 +80,19 @@ fn control_operand(size: CodeSize, pre: &Prefixes, bytes: &[u8]) -> Part<ModRm>
 
 /// The ModRM byte, and what follows it in the operand.
 #[tactic(auto, unfolding(crate::specs::Encoding::modrm_part, crate::specs::Encoding::operand_rest, xe_modrm::specs::Operand::operand_part))]
-fn modrm_part(size: CodeSize, pre: &Prefixes, kind: Operand, bytes: &[u8]) -> Part<ModRm>
+fn modrm_part(size: CodeSize, pre: &Prefixes, kind: OperandKind, bytes: &[u8]) -> Part<ModRm>
     ensures value { result ≡ modrm_part size pre.now kind bytes.now }
     ensures within { Within result bytes.now }
     ensures valid { IsGotOperand kind result }
 {
     match kind {
-        Operand::Control => control_operand(size, pre, bytes),
-        Operand::Nothing
-        | Operand::Any
-        | Operand::Memory
-        | Operand::MemoryOnly
-        | Operand::FromSegment
-        | Operand::ToSegment => operand(size, pre, bytes),
+        OperandKind::Control => control_operand(size, pre, bytes),
+        OperandKind::Nothing
+        | OperandKind::Any
+        | OperandKind::Memory
+        | OperandKind::MemoryOnly
+        | OperandKind::FromSegment
+        | OperandKind::ToSegment => operand(size, pre, bytes),
     }
 }
 
@@ -99,23 +102,23 @@ fn operand_row(
     size: CodeSize,
     pre: &Prefixes,
     op: u16,
-    shape: &Shape,
+    form: &InsnForm,
     bytes: &[u8],
 ) -> Part<Verdict>
     requires prefixes { IsPrefixes size pre.now }
     requires opcode { IsOpcode op }
-    requires shape { IsShapeOf op shape.now }
-    ensures value { result ≡ operand_row size pre.now op shape.now bytes.now }
+    requires form { IsFormOf op form.now }
+    ensures value { result ≡ operand_row size pre.now op form.now bytes.now }
     ensures within { Within result bytes.now }
     ensures valid { IsGotVerdict size result }
 {
-    let Part::Got(modrm, used) = modrm_part(size, pre, shape.operand, bytes) else {
+    let Part::Got(modrm, used) = modrm_part(size, pre, form.operand, bytes) else {
         return Part::More;
     };
-    if ends_outside(shape.operand, &modrm) {
+    if ends_outside(form.operand, &modrm) {
         return Part::Got(Verdict::Outside, used);
     }
-    match immediates_part(size, pre, op, shape, Some(modrm), &bytes[used..]) {
+    match immediates_part(size, pre, op, form, Some(modrm), &bytes[used..]) {
         Part::Got(verdict, more) => Part::Got(verdict, used + more),
         Part::More => Part::More,
     }
@@ -123,18 +126,18 @@ fn operand_row(
 
 /// A row, after its opcode.
 #[tactic(auto, unfolding(crate::specs::Encoding::row_part), using(crate::proofs::NeedLaws::kind_none))]
-fn row_part(size: CodeSize, pre: &Prefixes, op: u16, shape: &Shape, bytes: &[u8]) -> Part<Verdict>
+fn row_part(size: CodeSize, pre: &Prefixes, op: u16, form: &InsnForm, bytes: &[u8]) -> Part<Verdict>
     requires prefixes { IsPrefixes size pre.now }
     requires opcode { IsOpcode op }
-    requires shape { IsShapeOf op shape.now }
-    ensures value { result ≡ row_part size pre.now op shape.now bytes.now }
+    requires form { IsFormOf op form.now }
+    ensures value { result ≡ row_part size pre.now op form.now bytes.now }
     ensures within { Within result bytes.now }
     ensures valid { IsGotVerdict size result }
 {
-    if has_modrm(shape.operand) {
-        operand_row(size, pre, op, shape, bytes)
+    if has_modrm(form.operand) {
+        operand_row(size, pre, op, form, bytes)
     } else {
-        immediates_part(size, pre, op, shape, None, bytes)
+        immediates_part(size, pre, op, form, None, bytes)
     }
 }
 
@@ -166,33 +169,33 @@ fn is_bad_in_64_bit(op: u16) -> bool
 }
 
 /// SWAPGS, which is there in 64-bit code alone.
-fn swapgs_cell(long: bool) -> Cell
-    ensures value { result ≡ swapgs_cell long }
+fn swapgs_cell(in_64_bit: bool) -> OpcodeCell
+    ensures value { result ≡ swapgs_cell in_64_bit }
     ensures cell { IsCellOf 0x0F01 result }
 {
-    if !long {
-        return Cell::Invalid;
+    if !in_64_bit {
+        return OpcodeCell::Invalid;
     }
-    Cell::Plain(Shape {
+    OpcodeCell::Form(InsnForm {
         row: Row::Swapgs,
-        operand: Operand::Any,
-        imm: Imm::Nothing,
+        operand: OperandKind::Any,
+        imm: ImmediateKind::Nothing,
         lock: false,
-        width: Width::Usual,
+        size: SizeIn64Bit::Usual,
     })
 }
 
 /// What an opcode with the ModRM byte m is, where the reg field belongs to the opcode.
 #[tactic(auto, unfolding(crate::specs::Encoding::group_cell))]
-fn group_cell(setting: Setting, op: u16, m: u8) -> Cell
+fn group_cell(conditions: MapConditions, op: u16, m: u8) -> OpcodeCell
     requires { IsOpcode op }
-    ensures value { result ≡ group_cell setting op m }
+    ensures value { result ≡ group_cell conditions op m }
     ensures cell { IsCellOf op result }
 {
     if op == 0x0F01 && m == 0xF8 {
-        return swapgs_cell(setting.long);
+        return swapgs_cell(conditions.in_64_bit);
     }
-    cell_at(setting, op, m / 8 % 8)
+    cell_at(conditions, op, ModRmByte { byte: m }.reg())
 }
 
 /// The ModRM byte of a group, and what follows it.
@@ -207,16 +210,22 @@ fn group_part(size: CodeSize, pre: &Prefixes, op: u16, bytes: &[u8]) -> Part<Ver
     let Part::Got(m, used) = byte(bytes) else {
         return Part::More;
     };
-    match group_cell(setting_of(size, pre), op, m) {
-        Cell::Outside => Part::Got(Verdict::Outside, used),
-        Cell::Invalid => Part::Got(Verdict::Invalid, used),
-        Cell::Plain(shape) => operand_row(size, pre, op, &shape, bytes),
+    match group_cell(conditions_of(size, pre), op, m) {
+        OpcodeCell::Outside => Part::Got(Verdict::Outside, used),
+        OpcodeCell::Invalid => Part::Got(Verdict::Invalid, used),
+        OpcodeCell::Form(form) => operand_row(size, pre, op, &form, bytes),
     }
 }
 
 /// What a place of the opcode maps says.
 #[tactic(auto, unfolding(crate::specs::Encoding::cell_part))]
-fn cell_part(size: CodeSize, pre: &Prefixes, op: u16, cell: Cell, bytes: &[u8]) -> Part<Verdict>
+fn cell_part(
+    size: CodeSize,
+    pre: &Prefixes,
+    op: u16,
+    cell: OpcodeCell,
+    bytes: &[u8],
+) -> Part<Verdict>
     requires prefixes { IsPrefixes size pre.now }
     requires opcode { IsOpcode op }
     requires cell { IsCellOf op cell }
@@ -225,9 +234,9 @@ fn cell_part(size: CodeSize, pre: &Prefixes, op: u16, cell: Cell, bytes: &[u8]) 
     ensures valid { IsGotVerdict size result }
 {
     match cell {
-        Cell::Outside => Part::Got(Verdict::Outside, 0),
-        Cell::Invalid => Part::Got(Verdict::Invalid, 0),
-        Cell::Plain(shape) => row_part(size, pre, op, &shape, bytes),
+        OpcodeCell::Outside => Part::Got(Verdict::Outside, 0),
+        OpcodeCell::Invalid => Part::Got(Verdict::Invalid, 0),
+        OpcodeCell::Form(form) => row_part(size, pre, op, &form, bytes),
     }
 }
 
@@ -246,7 +255,13 @@ fn after_opcode(size: CodeSize, pre: &Prefixes, op: u16, bytes: &[u8]) -> Part<V
     if needs_reg(op) {
         return group_part(size, pre, op, bytes);
     }
-    cell_part(size, pre, op, cell_at(setting_of(size, pre), op, 0), bytes)
+    cell_part(
+        size,
+        pre,
+        op,
+        cell_at(conditions_of(size, pre), op, 0),
+        bytes,
+    )
 }
 
 /// What follows the first byte of an opcode: 0F has a second one.

@@ -1,238 +1,97 @@
+//! The groups, whose opcodes go on in the reg field of the ModRM byte (SDM volume 2, table A-6). The
+//! words of a cell are those of `crate::form`. Where a group has opcodes with several immediates,
+//! each has a line of its own.
+
+use crate::form::{
+    ImmediateKind, InsnForm, OpcodeCell, OperandKind, SizeIn64Bit, group_row, insn_form,
+    opcode_cell,
+};
 use crate::row::Row;
-use crate::shape::{Cell, Imm, Operand, Shape, Width};
-use crate::{locked, near, plain, stack};
+
+/// Group 1, 80 to 83, with its immediate.
+macro_rules! group_1 {
+    ($imm:ident) => {
+        group_row![(Add E $imm lock) (Or E $imm lock) (Adc E $imm lock) (Sbb E $imm lock) (And E $imm lock) (Sub E $imm lock) (Xor E $imm lock) (Cmp E $imm)]
+    };
+}
+
+/// Group 2, C0, C1 and D0 to D3, with its immediate where it has one.
+macro_rules! group_2 {
+    ($($imm:ident)?) => {
+        group_row![(Rol E $($imm)?) (Ror E $($imm)?) (Rcl E $($imm)?) (Rcr E $($imm)?) (Shl E $($imm)?) (Shr E $($imm)?) (Shl E $($imm)?) (Sar E $($imm)?)]
+    };
+}
+
+/// Group 3, F6 and F7, with the immediate of TEST.
+macro_rules! group_3 {
+    ($imm:ident) => {
+        group_row![(Test E $imm) (Test E $imm) (Not E lock) (Neg E lock) (Mul E) (Imul E) (Div E) (Idiv E)]
+    };
+}
+
+/// Group 11, C6 and C7, with its immediate.
+macro_rules! group_11 {
+    ($imm:ident) => {
+        group_row![(Mov E $imm) (-) (-) (-) (-) (-) (-) (-)]
+    };
+}
+
+// The places of `GROUPS`.
+pub const GROUP_1_IB: u8 = 0;
+
+pub const GROUP_1_IZ: u8 = 1;
+
+pub const GROUP_1_IB_SIGNED: u8 = 2;
+
+pub const GROUP_1A: u8 = 3;
+
+pub const GROUP_2: u8 = 4;
+
+pub const GROUP_2_IB: u8 = 5;
+
+pub const GROUP_3_IB: u8 = 6;
+
+pub const GROUP_3_IZ: u8 = 7;
+
+pub const GROUP_4: u8 = 8;
+
+pub const GROUP_5: u8 = 9;
+
+pub const GROUP_6: u8 = 10;
+
+pub const GROUP_7: u8 = 11;
+
+pub const GROUP_8: u8 = 12;
+
+pub const GROUP_9: u8 = 13;
+
+pub const GROUP_11_IB: u8 = 14;
+
+pub const GROUP_11_IZ: u8 = 15;
 
 /// The groups: what the reg field of the ModRM byte says.
-pub static GROUPS: [[Cell; 8]; 21] = [
-    // 0: 80
-    [
-        locked!(Add, Any, Byte),
-        locked!(Or, Any, Byte),
-        locked!(Adc, Any, Byte),
-        locked!(Sbb, Any, Byte),
-        locked!(And, Any, Byte),
-        locked!(Sub, Any, Byte),
-        locked!(Xor, Any, Byte),
-        plain!(Cmp, Any, Byte),
-    ],
-    // 1: 81
-    [
-        locked!(Add, Any, Full),
-        locked!(Or, Any, Full),
-        locked!(Adc, Any, Full),
-        locked!(Sbb, Any, Full),
-        locked!(And, Any, Full),
-        locked!(Sub, Any, Full),
-        locked!(Xor, Any, Full),
-        plain!(Cmp, Any, Full),
-    ],
-    // 2: 82
-    [
-        locked!(Add, Any, Byte),
-        locked!(Or, Any, Byte),
-        locked!(Adc, Any, Byte),
-        locked!(Sbb, Any, Byte),
-        locked!(And, Any, Byte),
-        locked!(Sub, Any, Byte),
-        locked!(Xor, Any, Byte),
-        plain!(Cmp, Any, Byte),
-    ],
-    // 3: 83
-    [
-        locked!(Add, Any, SignedByte),
-        locked!(Or, Any, SignedByte),
-        locked!(Adc, Any, SignedByte),
-        locked!(Sbb, Any, SignedByte),
-        locked!(And, Any, SignedByte),
-        locked!(Sub, Any, SignedByte),
-        locked!(Xor, Any, SignedByte),
-        plain!(Cmp, Any, SignedByte),
-    ],
-    // 4: 8F
-    [
-        stack!(Pop, Any, Nothing),
-        Cell::Outside,
-        Cell::Outside,
-        Cell::Outside,
-        Cell::Outside,
-        Cell::Outside,
-        Cell::Outside,
-        Cell::Outside,
-    ],
-    // 5: C0
-    [
-        plain!(Rol, Any, Byte),
-        plain!(Ror, Any, Byte),
-        plain!(Rcl, Any, Byte),
-        plain!(Rcr, Any, Byte),
-        plain!(Shl, Any, Byte),
-        plain!(Shr, Any, Byte),
-        plain!(Shl, Any, Byte),
-        plain!(Sar, Any, Byte),
-    ],
-    // 6: C1
-    [
-        plain!(Rol, Any, Byte),
-        plain!(Ror, Any, Byte),
-        plain!(Rcl, Any, Byte),
-        plain!(Rcr, Any, Byte),
-        plain!(Shl, Any, Byte),
-        plain!(Shr, Any, Byte),
-        plain!(Shl, Any, Byte),
-        plain!(Sar, Any, Byte),
-    ],
-    // 7: C6
-    [
-        plain!(Mov, Any, Byte),
-        Cell::Outside,
-        Cell::Outside,
-        Cell::Outside,
-        Cell::Outside,
-        Cell::Outside,
-        Cell::Outside,
-        Cell::Outside,
-    ],
-    // 8: C7
-    [
-        plain!(Mov, Any, Full),
-        Cell::Outside,
-        Cell::Outside,
-        Cell::Outside,
-        Cell::Outside,
-        Cell::Outside,
-        Cell::Outside,
-        Cell::Outside,
-    ],
-    // 9: D0
-    [
-        plain!(Rol, Any, Nothing),
-        plain!(Ror, Any, Nothing),
-        plain!(Rcl, Any, Nothing),
-        plain!(Rcr, Any, Nothing),
-        plain!(Shl, Any, Nothing),
-        plain!(Shr, Any, Nothing),
-        plain!(Shl, Any, Nothing),
-        plain!(Sar, Any, Nothing),
-    ],
-    // 10: D1
-    [
-        plain!(Rol, Any, Nothing),
-        plain!(Ror, Any, Nothing),
-        plain!(Rcl, Any, Nothing),
-        plain!(Rcr, Any, Nothing),
-        plain!(Shl, Any, Nothing),
-        plain!(Shr, Any, Nothing),
-        plain!(Shl, Any, Nothing),
-        plain!(Sar, Any, Nothing),
-    ],
-    // 11: D2
-    [
-        plain!(Rol, Any, Nothing),
-        plain!(Ror, Any, Nothing),
-        plain!(Rcl, Any, Nothing),
-        plain!(Rcr, Any, Nothing),
-        plain!(Shl, Any, Nothing),
-        plain!(Shr, Any, Nothing),
-        plain!(Shl, Any, Nothing),
-        plain!(Sar, Any, Nothing),
-    ],
-    // 12: D3
-    [
-        plain!(Rol, Any, Nothing),
-        plain!(Ror, Any, Nothing),
-        plain!(Rcl, Any, Nothing),
-        plain!(Rcr, Any, Nothing),
-        plain!(Shl, Any, Nothing),
-        plain!(Shr, Any, Nothing),
-        plain!(Shl, Any, Nothing),
-        plain!(Sar, Any, Nothing),
-    ],
-    // 13: F6
-    [
-        plain!(Test, Any, Byte),
-        plain!(Test, Any, Byte),
-        locked!(Not, Any, Nothing),
-        locked!(Neg, Any, Nothing),
-        plain!(Mul, Any, Nothing),
-        plain!(Imul, Any, Nothing),
-        plain!(Div, Any, Nothing),
-        plain!(Idiv, Any, Nothing),
-    ],
-    // 14: F7
-    [
-        plain!(Test, Any, Full),
-        plain!(Test, Any, Full),
-        locked!(Not, Any, Nothing),
-        locked!(Neg, Any, Nothing),
-        plain!(Mul, Any, Nothing),
-        plain!(Imul, Any, Nothing),
-        plain!(Div, Any, Nothing),
-        plain!(Idiv, Any, Nothing),
-    ],
-    // 15: FE
-    [
-        locked!(Inc, Any, Nothing),
-        locked!(Dec, Any, Nothing),
-        Cell::Invalid,
-        Cell::Invalid,
-        Cell::Invalid,
-        Cell::Invalid,
-        Cell::Invalid,
-        Cell::Invalid,
-    ],
-    // 16: FF
-    [
-        locked!(Inc, Any, Nothing),
-        locked!(Dec, Any, Nothing),
-        near!(Call, Any, Nothing),
-        plain!(Callf, Memory, Nothing),
-        near!(Jmp, Any, Nothing),
-        plain!(Jmpf, Memory, Nothing),
-        stack!(Push, Any, Nothing),
-        Cell::Invalid,
-    ],
-    // 17: 0F 00
-    [
-        plain!(Sldt, Any, Nothing),
-        plain!(Str, Any, Nothing),
-        plain!(Lldt, Any, Nothing),
-        plain!(Ltr, Any, Nothing),
-        plain!(Verr, Any, Nothing),
-        plain!(Verw, Any, Nothing),
-        Cell::Invalid,
-        Cell::Invalid,
-    ],
-    // 18: 0F 01
-    [
-        plain!(Sgdt, MemoryOnly, Nothing),
-        plain!(Sidt, MemoryOnly, Nothing),
-        plain!(Lgdt, MemoryOnly, Nothing),
-        plain!(Lidt, MemoryOnly, Nothing),
-        plain!(Smsw, Any, Nothing),
-        Cell::Outside,
-        plain!(Lmsw, Any, Nothing),
-        plain!(Invlpg, MemoryOnly, Nothing),
-    ],
-    // 19: 0F BA
-    [
-        Cell::Invalid,
-        Cell::Invalid,
-        Cell::Invalid,
-        Cell::Invalid,
-        plain!(Bt, Any, Byte),
-        locked!(Bts, Any, Byte),
-        locked!(Btr, Any, Byte),
-        locked!(Btc, Any, Byte),
-    ],
-    // 20: 0F C7
-    [
-        Cell::Outside,
-        locked!(Cmpxchg8b, Memory, Nothing),
-        Cell::Outside,
-        Cell::Outside,
-        Cell::Outside,
-        Cell::Outside,
-        Cell::Outside,
-        Cell::Outside,
-    ],
+pub static GROUPS: [[OpcodeCell; 8]; 16] = [
+    group_1!(ib), // 80, 82
+    group_1!(iz), // 81
+    group_1!(ib_signed), // 83
+    // group 1A: 8F
+    group_row![(Pop E d64) (-) (-) (-) (-) (-) (-) (-)],
+    group_2!(), // D0 to D3
+    group_2!(ib), // C0, C1
+    group_3!(ib), // F6
+    group_3!(iz), // F7
+    // group 4: FE
+    group_row![(Inc E lock) (Dec E lock) (invalid) (invalid) (invalid) (invalid) (invalid) (invalid)],
+    // group 5: FF
+    group_row![(Inc E lock) (Dec E lock) (Call E f64) (Callf M) (Jmp E f64) (Jmpf M) (Push E d64) (invalid)],
+    // group 6: 0F 00
+    group_row![(Sldt E) (Str E) (Lldt E) (Ltr E) (Verr E) (Verw E) (invalid) (invalid)],
+    // group 7: 0F 01
+    group_row![(Sgdt only_M) (Sidt only_M) (Lgdt only_M) (Lidt only_M) (Smsw E) (-) (Lmsw E) (Invlpg only_M)],
+    // group 8: 0F BA
+    group_row![(invalid) (invalid) (invalid) (invalid) (Bt E ib) (Bts E ib lock) (Btr E ib lock) (Btc E ib lock)],
+    // group 9: 0F C7
+    group_row![(-) (Cmpxchg8b M lock) (-) (-) (-) (-) (-) (-)],
+    group_11!(ib), // C6
+    group_11!(iz), // C7
 ];

@@ -1,10 +1,14 @@
+//! The immediates of an instruction.
+
 ghost use Rattle.std.specs.Prelude.{◌≡◌, ◌≤◌, ◌<◌, ◌^◌, ◌*◌, ◌+◌, ◌||◌, ◌==◌, IsTrue};
+ghost use Rattle.xe_base.specs.Words.{signed, wrapped};
 ghost use Rattle.xe_modrm.specs.Reader.{Within};
 ghost use Rattle.xe_opmap.specs.Encoding.{IsSize};
 ghost use Rattle.xe_opmap.specs.Valid.{imm_width};
 ghost use Rattle.xe_opmap.specs.Immediate.{IsBytes, IsCount, full_len, second_len, extended, number_part, extended_part, first_part, second_part};
 
-use crate::shape::Imm;
+use crate::form::ImmediateKind;
+use xe_base::Word;
 use xe_modrm::Part;
 
 /// How many bytes an iz immediate has.
@@ -16,15 +20,21 @@ fn full_len(opsize: u8) -> usize
 }
 
 /// How many bytes the second immediate has.
-fn second_len(imm: Imm) -> usize
+fn second_len(imm: ImmediateKind) -> usize
     ensures value { result ≡ second_len imm }
     ensures count { IsCount result }
     ensures bound { result ≤ 2 }
 {
     match imm {
-        Imm::Far => 2,
-        Imm::Frame => 1,
-        _ => 0,
+        ImmediateKind::FarPointer => 2,
+        ImmediateKind::EnterFrame => 1,
+        ImmediateKind::Nothing
+        | ImmediateKind::Byte
+        | ImmediateKind::SignedByte
+        | ImmediateKind::Word
+        | ImmediateKind::SignedOperand
+        | ImmediateKind::OperandSized
+        | ImmediateKind::Address => 0,
     }
 }
 
@@ -50,16 +60,31 @@ fn number(n: usize, bytes: &[u8]) -> Part<u64>
     Part::Got(number, n)
 }
 
-/// n bytes of ones.
-fn ones(n: usize) -> u64
-    requires { IsTrue (n == 1 || n == 2 || n == 4 || n == 8) }
-    ensures { result + 1 ≡ 2 ^ (8 * n) }
+/// The signed number of n bytes.
+fn signed(n: usize, x: u64) -> i128
+    requires n { IsTrue (n == 1 || n == 2 || n == 4) }
+    requires number { x < 2 ^ (8 * n) }
+    ensures { result ≡ signed (8 * n) x }
 {
     match n {
-        1 => 0xFF,
-        2 => 0xFFFF,
-        4 => 0xFFFF_FFFF,
-        _ => u64::MAX,
+        1 => Word::<8>::new(x).signed(),
+        2 => Word::<16>::new(x).signed(),
+        4 => Word::<32>::new(x).signed(),
+        _ => unreachable!(),
+    }
+}
+
+/// A whole number cut to the operand size.
+fn wrapped(number: i128, opsize: u8) -> u64
+    requires { IsSize opsize }
+    ensures value { result ≡ wrapped (8 * opsize) number }
+    ensures range { result < 2 ^ (8 * opsize) }
+{
+    match opsize {
+        2 => Word::<16>::wrapped(number).get(),
+        4 => Word::<32>::wrapped(number).get(),
+        8 => Word::<64>::wrapped(number).get(),
+        _ => unreachable!(),
     }
 }
 
@@ -67,20 +92,15 @@ fn ones(n: usize) -> u64
 fn extended(n: usize, opsize: u8, x: u64) -> u64
     requires opsize { IsSize opsize }
     requires n { IsTrue (n == 1 || n == 2 || n == 4) }
-    requires order { n ≤ opsize }
     requires number { x < 2 ^ (8 * n) }
     ensures value { result ≡ extended n opsize x }
     ensures range { result < 2 ^ (8 * opsize) }
 {
-    if x <= ones(n) / 2 {
-        x
-    } else {
-        x + (ones(opsize as usize) - ones(n))
-    }
+    wrapped(signed(n, x), opsize)
 }
 
 /// The second immediate.
-pub fn second(imm: Imm, bytes: &[u8]) -> Part<u16>
+pub fn second(imm: ImmediateKind, bytes: &[u8]) -> Part<u16>
     ensures value { result ≡ second_part imm bytes.now }
     ensures within { Within result bytes.now }
 {
@@ -94,7 +114,6 @@ pub fn second(imm: Imm, bytes: &[u8]) -> Part<u16>
 fn extended_number(n: usize, opsize: u8, bytes: &[u8]) -> Part<u64>
     requires opsize { IsSize opsize }
     requires n { IsTrue (n == 1 || n == 2 || n == 4) }
-    requires order { n ≤ opsize }
     ensures value { result ≡ extended_part n opsize bytes.now }
     ensures range { IsBytes opsize result }
     ensures within { Within result bytes.now }
@@ -106,7 +125,7 @@ fn extended_number(n: usize, opsize: u8, bytes: &[u8]) -> Part<u64>
 }
 
 /// The first immediate, by operand size and address size.
-pub fn first(opsize: u8, adsize: u8, imm: Imm, bytes: &[u8]) -> Part<u64>
+pub fn first(opsize: u8, adsize: u8, imm: ImmediateKind, bytes: &[u8]) -> Part<u64>
     requires opsize { IsSize opsize }
     requires adsize { IsSize adsize }
     ensures value { result ≡ first_part opsize adsize imm bytes.now }
@@ -114,12 +133,12 @@ pub fn first(opsize: u8, adsize: u8, imm: Imm, bytes: &[u8]) -> Part<u64>
     ensures within { Within result bytes.now }
 {
     match imm {
-        Imm::Nothing => number(0, bytes),
-        Imm::Byte => number(1, bytes),
-        Imm::SignedByte => extended_number(1, opsize, bytes),
-        Imm::Pair | Imm::Frame => number(2, bytes),
-        Imm::Full => extended_number(full_len(opsize), opsize, bytes),
-        Imm::Whole | Imm::Far => number(opsize as usize, bytes),
-        Imm::Address => number(adsize as usize, bytes),
+        ImmediateKind::Nothing => number(0, bytes),
+        ImmediateKind::Byte => number(1, bytes),
+        ImmediateKind::SignedByte => extended_number(1, opsize, bytes),
+        ImmediateKind::Word | ImmediateKind::EnterFrame => number(2, bytes),
+        ImmediateKind::SignedOperand => extended_number(full_len(opsize), opsize, bytes),
+        ImmediateKind::OperandSized | ImmediateKind::FarPointer => number(opsize as usize, bytes),
+        ImmediateKind::Address => number(adsize as usize, bytes),
     }
 }

@@ -1,8 +1,10 @@
+//! What the decoder answers.
+
 use crate::row::Row;
 use xe_modrm::{ModRm, Prefixes};
 
 /// An instruction.
-#[derive(Clone, Copy, Drop, PartialEq, Eq, Debug)]
+#[derive(Clone, Copy, PartialEq, Eq, Debug)]
 pub struct Insn {
     pub row: Row,
     /// How many bytes it has, 1 to 15.
@@ -24,7 +26,7 @@ pub struct Insn {
 }
 
 /// What some bytes begin with, once it is decided.
-#[derive(Clone, Copy, Drop, PartialEq, Eq, Debug)]
+#[derive(Clone, Copy, PartialEq, Eq, Debug)]
 pub enum Verdict {
     /// An instruction, whose length isn't counted yet and is 0.
     Valid(Insn),
@@ -33,7 +35,7 @@ pub enum Verdict {
 }
 
 /// What some bytes begin with.
-#[derive(Clone, Copy, Drop, PartialEq, Eq, Debug)]
+#[derive(Clone, Copy, PartialEq, Eq, Debug)]
 pub enum Decoded {
     /// An instruction of the table.
     Insn(Insn),

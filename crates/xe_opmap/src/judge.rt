@@ -1,12 +1,14 @@
+//! Whether a whole instruction is valid.
+
 ghost use Rattle.std.specs.Prelude.{true, ◌≡◌, ◌<◌, ◌*◌, ◌^◌};
 ghost use Rattle.std.specs.Option.{ForSome};
 ghost use Rattle.xe_modrm.specs.Valid.{IsPrefixes, IsModRm};
 ghost use Rattle.xe_opmap.specs.Table.{IsOpcode};
-ghost use Rattle.xe_opmap.specs.Valid.{imm_width, is_kind, IsShapeOf, IsVerdict};
+ghost use Rattle.xe_opmap.specs.Valid.{imm_width, is_kind, IsFormOf, IsVerdict};
 ghost use Rattle.xe_opmap.specs.Encoding.{opsize_of, adsize_of, is_memory, is_control, wrong_operand, is_wrong, judged, ends_outside, has_modrm};
 
+use crate::form::{InsnForm, OperandKind};
 use crate::insn::{Insn, Verdict};
-use crate::shape::{Operand, Shape};
 use crate::sizes::{adsize_of, opsize_of};
 use xe_base::CodeSize;
 use xe_modrm::{ModRm, Prefixes};
@@ -29,27 +31,27 @@ fn is_control(n: u8) -> bool
 }
 
 /// Whether an operand is of a kind that its row doesn't have.
-fn wrong_operand(kind: Operand, modrm: &Option<ModRm>) -> bool
+fn wrong_operand(kind: OperandKind, modrm: &Option<ModRm>) -> bool
     ensures { result ≡ wrong_operand kind modrm.now }
 {
     let Some(modrm) = modrm else {
         return false;
     };
     match kind {
-        Operand::Nothing | Operand::Any | Operand::MemoryOnly => false,
-        Operand::Memory => modrm.md == 3,
-        Operand::FromSegment => modrm.reg % 8 >= 6,
-        Operand::ToSegment => (modrm.reg % 8 >= 6) | (modrm.reg % 8 == 1),
-        Operand::Control => !is_control(modrm.reg),
+        OperandKind::Nothing | OperandKind::Any | OperandKind::MemoryOnly => false,
+        OperandKind::Memory => modrm.md == 3,
+        OperandKind::FromSegment => modrm.reg % 8 >= 6,
+        OperandKind::ToSegment => (modrm.reg % 8 >= 6) | (modrm.reg % 8 == 1),
+        OperandKind::Control => !is_control(modrm.reg),
     }
 }
 
 /// Whether LOCK isn't allowed, or the operand is of a wrong kind.
-fn is_wrong(pre: &Prefixes, shape: &Shape, modrm: &Option<ModRm>) -> bool
-    ensures { result ≡ is_wrong pre.now shape.now modrm.now }
+fn is_wrong(pre: &Prefixes, form: &InsnForm, modrm: &Option<ModRm>) -> bool
+    ensures { result ≡ is_wrong pre.now form.now modrm.now }
 {
-    let locked = shape.lock & is_memory(modrm);
-    (pre.lock & !locked) | wrong_operand(shape.operand, modrm)
+    let locked = form.lock & is_memory(modrm);
+    (pre.lock & !locked) | wrong_operand(form.operand, modrm)
 }
 
 /// Judges a whole instruction.
@@ -58,7 +60,7 @@ pub fn judged(
     size: CodeSize,
     pre: &Prefixes,
     op: u16,
-    shape: &Shape,
+    form: &InsnForm,
     modrm: Option<ModRm>,
     imm: u64,
     imm2: u16,
@@ -66,20 +68,20 @@ pub fn judged(
     requires prefixes { IsPrefixes size pre.now }
     requires opcode { IsOpcode op }
     requires modrm { ForSome modrm IsModRm }
-    requires imm { imm < 2 ^ (8 * imm_width (opsize_of size pre.now shape.now.width) (adsize_of size pre.now.adsize) shape.now.imm) }
-    requires shape { IsShapeOf op shape.now }
-    requires kind { is_kind shape.now.operand modrm ≡ true }
-    ensures value { result ≡ judged size pre.now op shape.now modrm imm imm2 }
+    requires imm { imm < 2 ^ (8 * imm_width (opsize_of size pre.now form.now.size) (adsize_of size pre.now.adsize) form.now.imm) }
+    requires form { IsFormOf op form.now }
+    requires kind { is_kind form.now.operand modrm ≡ true }
+    ensures value { result ≡ judged size pre.now op form.now modrm imm imm2 }
     ensures valid { IsVerdict size result }
 {
-    if is_wrong(pre, shape, &modrm) {
+    if is_wrong(pre, form, &modrm) {
         return Verdict::Invalid;
     }
     Verdict::Valid(Insn {
-        row: shape.row,
+        row: form.row,
         len: 0,
         opcode: op,
-        opsize: opsize_of(size, pre, shape.width),
+        opsize: opsize_of(size, pre, form.size),
         adsize: adsize_of(size, pre.adsize),
         pre: *pre,
         modrm,
@@ -89,21 +91,31 @@ pub fn judged(
 }
 
 /// Whether no row goes on with an operand.
-pub fn ends_outside(kind: Operand, modrm: &ModRm) -> bool
+pub fn ends_outside(kind: OperandKind, modrm: &ModRm) -> bool
     ensures { result ≡ ends_outside kind modrm.now }
 {
     match kind {
-        Operand::MemoryOnly => modrm.md == 3,
-        _ => false,
+        OperandKind::MemoryOnly => modrm.md == 3,
+        OperandKind::Nothing
+        | OperandKind::Any
+        | OperandKind::Memory
+        | OperandKind::FromSegment
+        | OperandKind::ToSegment
+        | OperandKind::Control => false,
     }
 }
 
 /// Whether a ModRM byte follows the opcode.
-pub fn has_modrm(kind: Operand) -> bool
+pub fn has_modrm(kind: OperandKind) -> bool
     ensures { result ≡ has_modrm kind }
 {
     match kind {
-        Operand::Nothing => false,
-        _ => true,
+        OperandKind::Nothing => false,
+        OperandKind::Any
+        | OperandKind::Memory
+        | OperandKind::MemoryOnly
+        | OperandKind::FromSegment
+        | OperandKind::ToSegment
+        | OperandKind::Control => true,
     }
 }

@@ -1,4 +1,6 @@
-ghost use Rattle.xe_opmap.specs.Relations.{AreApart, CoverAll, FromParts, ToParts};
+//! What the encodings come to, as laws.
+
+ghost use Rattle.xe_opmap.specs.Relations.{AreApart, CoverAll, FromParts, ToParts, OutsideLeaves, LeavingIsOutside};
 ghost use Rattle.xe_opmap.specs.Parts.{SpelledHasParts, AllPartsSpell};
 
 /// No list of bytes that is an instruction, an invalid encoding or one outside the table begins a
@@ -8,9 +10,17 @@ pub fn encodings_are_apart()
 {}
 
 /// Each list of bytes has a front that is an instruction, an invalid encoding or one outside the
-/// table, or is a proper front of such a list.
+/// table, or goes on to such a list with some bytes more.
 pub fn encodings_cover_all()
     ensures { CoverAll }
+{}
+
+/// A list of bytes is outside exactly where the table ends with its last byte: neither it nor any
+/// longer list of bytes that begins with it is an instruction or an invalid encoding, and each
+/// shorter front of it has a longer list that is.
+pub fn outside_is_where_the_table_ends()
+    ensures to { OutsideLeaves }
+    ensures from { LeavingIsOutside }
 {}
 
 /// A list of bytes is what the grammar says exactly where it is prefix bytes, the first opcode

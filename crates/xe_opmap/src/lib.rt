@@ -5,6 +5,7 @@
 #![tactic(auto)]
 
 mod decoder;
+mod form;
 mod groups;
 mod immediate;
 mod insn;
@@ -14,7 +15,6 @@ mod lookup;
 mod names;
 mod opcodes;
 mod row;
-mod shape;
 mod sizes;
 #[cfg(test)]
 mod tests;

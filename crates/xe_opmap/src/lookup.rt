@@ -1,21 +1,24 @@
+//! The look-up of an opcode in the maps.
+
 ghost use Rattle.std.specs.Prelude.{◌≡◌, ◌<◌, ◌⊎◌, ◌≤◌};
 ghost use Rattle.xe_opmap.specs.Table.{needs_reg, cell_at, IsOpcode};
 ghost use Rattle.xe_opmap.specs.Valid.{IsCellOf};
 ghost use Rattle.xe_opmap.specs.Lookup.{entry_of};
 
+use crate::form::{MapConditions, MapEntry, OpcodeCell};
 use crate::groups::GROUPS;
 use crate::opcodes::{ONE_BYTE, TWO_BYTE};
-use crate::shape::{Cell, Entry, Setting};
 
 /// The place of an opcode in its map.
-fn entry(op: u16) -> Entry
+fn entry(op: u16) -> MapEntry
     requires { IsOpcode op }
     ensures { result ≡ entry_of op }
 {
     if op < 256 {
-        ONE_BYTE[op as usize]
+        ONE_BYTE[op as usize / 8][op as usize % 8]
     } else {
-        TWO_BYTE[(op - 0x0F00) as usize]
+        let op = (op - 0x0F00) as usize;
+        TWO_BYTE[op / 8][op % 8]
     }
 }
 
@@ -25,27 +28,34 @@ pub fn needs_reg(op: u16) -> bool
     ensures { result ≡ needs_reg op }
 {
     match entry(op) {
-        Entry::Group(_) => true,
-        _ => false,
+        MapEntry::Group(_) => true,
+        MapEntry::Alone(_) => false,
+        MapEntry::ByCode(_, _) => false,
+        MapEntry::ByF3(_, _) => false,
+        MapEntry::ByRexB(_, _, _) => false,
     }
 }
 
 /// What the tables have for an opcode and a reg field.
-fn cell_of(setting: Setting, op: u16, reg: u8) -> Cell
+fn cell_of(conditions: MapConditions, op: u16, reg: u8) -> OpcodeCell
     requires opcode { IsOpcode op }
     requires reg { reg < 8 }
-    ensures { result ≡ cell_at setting op reg }
+    ensures { result ≡ cell_at conditions op reg }
 {
     match entry(op) {
-        Entry::Alone(cell) => cell,
-        Entry::Group(group) => GROUPS[group as usize][reg as usize],
-        Entry::ByCode(legacy, long) => if setting.long { long } else { legacy },
-        Entry::ByRep(plain, rep) => if setting.rep { rep } else { plain },
-        Entry::ByRex(plain, rep, rex_b) => {
-            if setting.rex_b {
+        MapEntry::Alone(cell) => cell,
+        MapEntry::Group(group) => GROUPS[group as usize][reg as usize],
+        MapEntry::ByCode(legacy, in_64_bit) => if conditions.in_64_bit {
+            in_64_bit
+        } else {
+            legacy
+        },
+        MapEntry::ByF3(plain, after_f3) => if conditions.after_f3 { after_f3 } else { plain },
+        MapEntry::ByRexB(plain, after_f3, rex_b) => {
+            if conditions.rex_b {
                 rex_b
-            } else if setting.rep {
-                rep
+            } else if conditions.after_f3 {
+                after_f3
             } else {
                 plain
             }
@@ -54,11 +64,11 @@ fn cell_of(setting: Setting, op: u16, reg: u8) -> Cell
 }
 
 /// What an opcode says with this reg field.
-pub fn cell_at(setting: Setting, op: u16, reg: u8) -> Cell
+pub fn cell_at(conditions: MapConditions, op: u16, reg: u8) -> OpcodeCell
     requires opcode { IsOpcode op }
     requires reg { reg < 8 }
-    ensures value { result ≡ cell_at setting op reg }
+    ensures value { result ≡ cell_at conditions op reg }
     ensures cell { IsCellOf op result }
 {
-    cell_of(setting, op, reg)
+    cell_of(conditions, op, reg)
 }

@@ -1,3 +1,5 @@
+//! The names of the rows.
+
 ghost use Rattle.std.specs.Prelude.{◌≡◌};
 ghost use Rattle.xe_opmap.specs.Names.{name_of};
 

@@ -1,559 +1,108 @@
+//! The opcode maps, eight opcodes a line (SDM volume 2, tables A-2 and A-3). The words of an opcode
+//! are those of `crate::form`.
+
+use crate::form::{
+    ImmediateKind, InsnForm, MapEntry, OpcodeCell, OperandKind, SizeIn64Bit, insn_form, map_entry,
+    map_row, opcode_cell,
+};
+use crate::groups::{
+    GROUP_1_IB, GROUP_1_IB_SIGNED, GROUP_1_IZ, GROUP_1A, GROUP_2, GROUP_2_IB, GROUP_3_IB,
+    GROUP_3_IZ, GROUP_4, GROUP_5, GROUP_6, GROUP_7, GROUP_8, GROUP_9, GROUP_11_IB, GROUP_11_IZ,
+};
 use crate::row::Row;
-use crate::shape::{Cell, Entry, Imm, Operand, Shape, Width};
-use crate::{locked, near, plain, stack};
 
 /// The one-byte opcodes.
-pub static ONE_BYTE: [Entry; 256] = [
-    // 00
-    Entry::Alone(locked!(Add, Any, Nothing)),
-    Entry::Alone(locked!(Add, Any, Nothing)),
-    Entry::Alone(plain!(Add, Any, Nothing)),
-    Entry::Alone(plain!(Add, Any, Nothing)),
-    Entry::Alone(plain!(Add, Nothing, Byte)),
-    Entry::Alone(plain!(Add, Nothing, Full)),
-    Entry::Alone(stack!(Pushseg, Nothing, Nothing)),
-    Entry::Alone(stack!(Popseg, Nothing, Nothing)),
-    Entry::Alone(locked!(Or, Any, Nothing)),
-    Entry::Alone(locked!(Or, Any, Nothing)),
-    Entry::Alone(plain!(Or, Any, Nothing)),
-    Entry::Alone(plain!(Or, Any, Nothing)),
-    Entry::Alone(plain!(Or, Nothing, Byte)),
-    Entry::Alone(plain!(Or, Nothing, Full)),
-    Entry::Alone(stack!(Pushseg, Nothing, Nothing)),
-    Entry::Alone(Cell::Outside),
-    // 10
-    Entry::Alone(locked!(Adc, Any, Nothing)),
-    Entry::Alone(locked!(Adc, Any, Nothing)),
-    Entry::Alone(plain!(Adc, Any, Nothing)),
-    Entry::Alone(plain!(Adc, Any, Nothing)),
-    Entry::Alone(plain!(Adc, Nothing, Byte)),
-    Entry::Alone(plain!(Adc, Nothing, Full)),
-    Entry::Alone(stack!(Pushseg, Nothing, Nothing)),
-    Entry::Alone(stack!(Popseg, Nothing, Nothing)),
-    Entry::Alone(locked!(Sbb, Any, Nothing)),
-    Entry::Alone(locked!(Sbb, Any, Nothing)),
-    Entry::Alone(plain!(Sbb, Any, Nothing)),
-    Entry::Alone(plain!(Sbb, Any, Nothing)),
-    Entry::Alone(plain!(Sbb, Nothing, Byte)),
-    Entry::Alone(plain!(Sbb, Nothing, Full)),
-    Entry::Alone(stack!(Pushseg, Nothing, Nothing)),
-    Entry::Alone(stack!(Popseg, Nothing, Nothing)),
-    // 20
-    Entry::Alone(locked!(And, Any, Nothing)),
-    Entry::Alone(locked!(And, Any, Nothing)),
-    Entry::Alone(plain!(And, Any, Nothing)),
-    Entry::Alone(plain!(And, Any, Nothing)),
-    Entry::Alone(plain!(And, Nothing, Byte)),
-    Entry::Alone(plain!(And, Nothing, Full)),
-    Entry::Alone(Cell::Outside),
-    Entry::Alone(plain!(Daa, Nothing, Nothing)),
-    Entry::Alone(locked!(Sub, Any, Nothing)),
-    Entry::Alone(locked!(Sub, Any, Nothing)),
-    Entry::Alone(plain!(Sub, Any, Nothing)),
-    Entry::Alone(plain!(Sub, Any, Nothing)),
-    Entry::Alone(plain!(Sub, Nothing, Byte)),
-    Entry::Alone(plain!(Sub, Nothing, Full)),
-    Entry::Alone(Cell::Outside),
-    Entry::Alone(plain!(Das, Nothing, Nothing)),
-    // 30
-    Entry::Alone(locked!(Xor, Any, Nothing)),
-    Entry::Alone(locked!(Xor, Any, Nothing)),
-    Entry::Alone(plain!(Xor, Any, Nothing)),
-    Entry::Alone(plain!(Xor, Any, Nothing)),
-    Entry::Alone(plain!(Xor, Nothing, Byte)),
-    Entry::Alone(plain!(Xor, Nothing, Full)),
-    Entry::Alone(Cell::Outside),
-    Entry::Alone(plain!(Aaa, Nothing, Nothing)),
-    Entry::Alone(plain!(Cmp, Any, Nothing)),
-    Entry::Alone(plain!(Cmp, Any, Nothing)),
-    Entry::Alone(plain!(Cmp, Any, Nothing)),
-    Entry::Alone(plain!(Cmp, Any, Nothing)),
-    Entry::Alone(plain!(Cmp, Nothing, Byte)),
-    Entry::Alone(plain!(Cmp, Nothing, Full)),
-    Entry::Alone(Cell::Outside),
-    Entry::Alone(plain!(Aas, Nothing, Nothing)),
-    // 40
-    Entry::Alone(plain!(Inc, Nothing, Nothing)),
-    Entry::Alone(plain!(Inc, Nothing, Nothing)),
-    Entry::Alone(plain!(Inc, Nothing, Nothing)),
-    Entry::Alone(plain!(Inc, Nothing, Nothing)),
-    Entry::Alone(plain!(Inc, Nothing, Nothing)),
-    Entry::Alone(plain!(Inc, Nothing, Nothing)),
-    Entry::Alone(plain!(Inc, Nothing, Nothing)),
-    Entry::Alone(plain!(Inc, Nothing, Nothing)),
-    Entry::Alone(plain!(Dec, Nothing, Nothing)),
-    Entry::Alone(plain!(Dec, Nothing, Nothing)),
-    Entry::Alone(plain!(Dec, Nothing, Nothing)),
-    Entry::Alone(plain!(Dec, Nothing, Nothing)),
-    Entry::Alone(plain!(Dec, Nothing, Nothing)),
-    Entry::Alone(plain!(Dec, Nothing, Nothing)),
-    Entry::Alone(plain!(Dec, Nothing, Nothing)),
-    Entry::Alone(plain!(Dec, Nothing, Nothing)),
-    // 50
-    Entry::Alone(stack!(Push, Nothing, Nothing)),
-    Entry::Alone(stack!(Push, Nothing, Nothing)),
-    Entry::Alone(stack!(Push, Nothing, Nothing)),
-    Entry::Alone(stack!(Push, Nothing, Nothing)),
-    Entry::Alone(stack!(Push, Nothing, Nothing)),
-    Entry::Alone(stack!(Push, Nothing, Nothing)),
-    Entry::Alone(stack!(Push, Nothing, Nothing)),
-    Entry::Alone(stack!(Push, Nothing, Nothing)),
-    Entry::Alone(stack!(Pop, Nothing, Nothing)),
-    Entry::Alone(stack!(Pop, Nothing, Nothing)),
-    Entry::Alone(stack!(Pop, Nothing, Nothing)),
-    Entry::Alone(stack!(Pop, Nothing, Nothing)),
-    Entry::Alone(stack!(Pop, Nothing, Nothing)),
-    Entry::Alone(stack!(Pop, Nothing, Nothing)),
-    Entry::Alone(stack!(Pop, Nothing, Nothing)),
-    Entry::Alone(stack!(Pop, Nothing, Nothing)),
-    // 60
-    Entry::Alone(plain!(Pusha, Nothing, Nothing)),
-    Entry::Alone(plain!(Popa, Nothing, Nothing)),
-    Entry::Alone(Cell::Outside),
-    Entry::ByCode(plain!(Arpl, Any, Nothing), plain!(Movsxd, Any, Nothing)),
-    Entry::Alone(Cell::Outside),
-    Entry::Alone(Cell::Outside),
-    Entry::Alone(Cell::Outside),
-    Entry::Alone(Cell::Outside),
-    Entry::Alone(stack!(Push, Nothing, Full)),
-    Entry::Alone(plain!(Imul, Any, Full)),
-    Entry::Alone(stack!(Push, Nothing, SignedByte)),
-    Entry::Alone(plain!(Imul, Any, SignedByte)),
-    Entry::Alone(plain!(Ins, Nothing, Nothing)),
-    Entry::Alone(plain!(Ins, Nothing, Nothing)),
-    Entry::Alone(plain!(Outs, Nothing, Nothing)),
-    Entry::Alone(plain!(Outs, Nothing, Nothing)),
-    // 70
-    Entry::Alone(near!(Jcc, Nothing, SignedByte)),
-    Entry::Alone(near!(Jcc, Nothing, SignedByte)),
-    Entry::Alone(near!(Jcc, Nothing, SignedByte)),
-    Entry::Alone(near!(Jcc, Nothing, SignedByte)),
-    Entry::Alone(near!(Jcc, Nothing, SignedByte)),
-    Entry::Alone(near!(Jcc, Nothing, SignedByte)),
-    Entry::Alone(near!(Jcc, Nothing, SignedByte)),
-    Entry::Alone(near!(Jcc, Nothing, SignedByte)),
-    Entry::Alone(near!(Jcc, Nothing, SignedByte)),
-    Entry::Alone(near!(Jcc, Nothing, SignedByte)),
-    Entry::Alone(near!(Jcc, Nothing, SignedByte)),
-    Entry::Alone(near!(Jcc, Nothing, SignedByte)),
-    Entry::Alone(near!(Jcc, Nothing, SignedByte)),
-    Entry::Alone(near!(Jcc, Nothing, SignedByte)),
-    Entry::Alone(near!(Jcc, Nothing, SignedByte)),
-    Entry::Alone(near!(Jcc, Nothing, SignedByte)),
-    // 80
-    Entry::Group(0),
-    Entry::Group(1),
-    Entry::Group(2),
-    Entry::Group(3),
-    Entry::Alone(plain!(Test, Any, Nothing)),
-    Entry::Alone(plain!(Test, Any, Nothing)),
-    Entry::Alone(locked!(Xchg, Any, Nothing)),
-    Entry::Alone(locked!(Xchg, Any, Nothing)),
-    Entry::Alone(plain!(Mov, Any, Nothing)),
-    Entry::Alone(plain!(Mov, Any, Nothing)),
-    Entry::Alone(plain!(Mov, Any, Nothing)),
-    Entry::Alone(plain!(Mov, Any, Nothing)),
-    Entry::Alone(plain!(Movseg, FromSegment, Nothing)),
-    Entry::Alone(plain!(Lea, Memory, Nothing)),
-    Entry::Alone(plain!(Movseg, ToSegment, Nothing)),
-    Entry::Group(4),
-    // 90
-    Entry::ByRex(
-        plain!(Nop, Nothing, Nothing),
-        plain!(Pause, Nothing, Nothing),
-        plain!(Xchg, Nothing, Nothing),
-    ),
-    Entry::Alone(plain!(Xchg, Nothing, Nothing)),
-    Entry::Alone(plain!(Xchg, Nothing, Nothing)),
-    Entry::Alone(plain!(Xchg, Nothing, Nothing)),
-    Entry::Alone(plain!(Xchg, Nothing, Nothing)),
-    Entry::Alone(plain!(Xchg, Nothing, Nothing)),
-    Entry::Alone(plain!(Xchg, Nothing, Nothing)),
-    Entry::Alone(plain!(Xchg, Nothing, Nothing)),
-    Entry::Alone(plain!(Cbw, Nothing, Nothing)),
-    Entry::Alone(plain!(Cwd, Nothing, Nothing)),
-    Entry::Alone(plain!(Callf, Nothing, Far)),
-    Entry::Alone(Cell::Outside),
-    Entry::Alone(stack!(Pushf, Nothing, Nothing)),
-    Entry::Alone(stack!(Popf, Nothing, Nothing)),
-    Entry::Alone(plain!(Sahf, Nothing, Nothing)),
-    Entry::Alone(plain!(Lahf, Nothing, Nothing)),
-    // A0
-    Entry::Alone(plain!(Mov, Nothing, Address)),
-    Entry::Alone(plain!(Mov, Nothing, Address)),
-    Entry::Alone(plain!(Mov, Nothing, Address)),
-    Entry::Alone(plain!(Mov, Nothing, Address)),
-    Entry::Alone(plain!(Movs, Nothing, Nothing)),
-    Entry::Alone(plain!(Movs, Nothing, Nothing)),
-    Entry::Alone(plain!(Cmps, Nothing, Nothing)),
-    Entry::Alone(plain!(Cmps, Nothing, Nothing)),
-    Entry::Alone(plain!(Test, Nothing, Byte)),
-    Entry::Alone(plain!(Test, Nothing, Full)),
-    Entry::Alone(plain!(Stos, Nothing, Nothing)),
-    Entry::Alone(plain!(Stos, Nothing, Nothing)),
-    Entry::Alone(plain!(Lods, Nothing, Nothing)),
-    Entry::Alone(plain!(Lods, Nothing, Nothing)),
-    Entry::Alone(plain!(Scas, Nothing, Nothing)),
-    Entry::Alone(plain!(Scas, Nothing, Nothing)),
-    // B0
-    Entry::Alone(plain!(Mov, Nothing, Byte)),
-    Entry::Alone(plain!(Mov, Nothing, Byte)),
-    Entry::Alone(plain!(Mov, Nothing, Byte)),
-    Entry::Alone(plain!(Mov, Nothing, Byte)),
-    Entry::Alone(plain!(Mov, Nothing, Byte)),
-    Entry::Alone(plain!(Mov, Nothing, Byte)),
-    Entry::Alone(plain!(Mov, Nothing, Byte)),
-    Entry::Alone(plain!(Mov, Nothing, Byte)),
-    Entry::Alone(plain!(Mov, Nothing, Whole)),
-    Entry::Alone(plain!(Mov, Nothing, Whole)),
-    Entry::Alone(plain!(Mov, Nothing, Whole)),
-    Entry::Alone(plain!(Mov, Nothing, Whole)),
-    Entry::Alone(plain!(Mov, Nothing, Whole)),
-    Entry::Alone(plain!(Mov, Nothing, Whole)),
-    Entry::Alone(plain!(Mov, Nothing, Whole)),
-    Entry::Alone(plain!(Mov, Nothing, Whole)),
-    // C0
-    Entry::Group(5),
-    Entry::Group(6),
-    Entry::Alone(near!(Ret, Nothing, Pair)),
-    Entry::Alone(near!(Ret, Nothing, Nothing)),
-    Entry::ByCode(plain!(Les, MemoryOnly, Nothing), Cell::Outside),
-    Entry::ByCode(plain!(Lds, MemoryOnly, Nothing), Cell::Outside),
-    Entry::Group(7),
-    Entry::Group(8),
-    Entry::Alone(stack!(Enter, Nothing, Frame)),
-    Entry::Alone(stack!(Leave, Nothing, Nothing)),
-    Entry::Alone(plain!(Retf, Nothing, Pair)),
-    Entry::Alone(plain!(Retf, Nothing, Nothing)),
-    Entry::Alone(plain!(Int3, Nothing, Nothing)),
-    Entry::Alone(plain!(Int, Nothing, Byte)),
-    Entry::Alone(plain!(Into, Nothing, Nothing)),
-    Entry::Alone(plain!(Iret, Nothing, Nothing)),
-    // D0
-    Entry::Group(9),
-    Entry::Group(10),
-    Entry::Group(11),
-    Entry::Group(12),
-    Entry::Alone(plain!(Aam, Nothing, Byte)),
-    Entry::Alone(plain!(Aad, Nothing, Byte)),
-    Entry::Alone(Cell::Outside),
-    Entry::Alone(plain!(Xlat, Nothing, Nothing)),
-    Entry::Alone(Cell::Outside),
-    Entry::Alone(Cell::Outside),
-    Entry::Alone(Cell::Outside),
-    Entry::Alone(Cell::Outside),
-    Entry::Alone(Cell::Outside),
-    Entry::Alone(Cell::Outside),
-    Entry::Alone(Cell::Outside),
-    Entry::Alone(Cell::Outside),
-    // E0
-    Entry::Alone(near!(Loopne, Nothing, SignedByte)),
-    Entry::Alone(near!(Loope, Nothing, SignedByte)),
-    Entry::Alone(near!(Loop, Nothing, SignedByte)),
-    Entry::Alone(near!(Jcxz, Nothing, SignedByte)),
-    Entry::Alone(plain!(In, Nothing, Byte)),
-    Entry::Alone(plain!(In, Nothing, Byte)),
-    Entry::Alone(plain!(Out, Nothing, Byte)),
-    Entry::Alone(plain!(Out, Nothing, Byte)),
-    Entry::Alone(near!(Call, Nothing, Full)),
-    Entry::Alone(near!(Jmp, Nothing, Full)),
-    Entry::Alone(plain!(Jmpf, Nothing, Far)),
-    Entry::Alone(near!(Jmp, Nothing, SignedByte)),
-    Entry::Alone(plain!(In, Nothing, Nothing)),
-    Entry::Alone(plain!(In, Nothing, Nothing)),
-    Entry::Alone(plain!(Out, Nothing, Nothing)),
-    Entry::Alone(plain!(Out, Nothing, Nothing)),
-    // F0
-    Entry::Alone(Cell::Outside),
-    Entry::Alone(Cell::Outside),
-    Entry::Alone(Cell::Outside),
-    Entry::Alone(Cell::Outside),
-    Entry::Alone(plain!(Hlt, Nothing, Nothing)),
-    Entry::Alone(plain!(Cmc, Nothing, Nothing)),
-    Entry::Group(13),
-    Entry::Group(14),
-    Entry::Alone(plain!(Clc, Nothing, Nothing)),
-    Entry::Alone(plain!(Stc, Nothing, Nothing)),
-    Entry::Alone(plain!(Cli, Nothing, Nothing)),
-    Entry::Alone(plain!(Sti, Nothing, Nothing)),
-    Entry::Alone(plain!(Cld, Nothing, Nothing)),
-    Entry::Alone(plain!(Std, Nothing, Nothing)),
-    Entry::Group(15),
-    Entry::Group(16),
+pub static ONE_BYTE: [[MapEntry; 8]; 32] = [
+    map_row![(Add E lock) (Add E lock) (Add E) (Add E) (Add ib) (Add iz) (Pushseg d64) (Popseg d64)], // 00
+    map_row![(Or E lock) (Or E lock) (Or E) (Or E) (Or ib) (Or iz) (Pushseg d64) (-)], // 08
+    map_row![(Adc E lock) (Adc E lock) (Adc E) (Adc E) (Adc ib) (Adc iz) (Pushseg d64) (Popseg d64)], // 10
+    map_row![(Sbb E lock) (Sbb E lock) (Sbb E) (Sbb E) (Sbb ib) (Sbb iz) (Pushseg d64) (Popseg d64)], // 18
+    map_row![(And E lock) (And E lock) (And E) (And E) (And ib) (And iz) (-) (Daa)], // 20
+    map_row![(Sub E lock) (Sub E lock) (Sub E) (Sub E) (Sub ib) (Sub iz) (-) (Das)], // 28
+    map_row![(Xor E lock) (Xor E lock) (Xor E) (Xor E) (Xor ib) (Xor iz) (-) (Aaa)], // 30
+    map_row![(Cmp E) (Cmp E) (Cmp E) (Cmp E) (Cmp ib) (Cmp iz) (-) (Aas)], // 38
+    map_row![(Inc) 8 times], // 40 to 47
+    map_row![(Dec) 8 times], // 48 to 4F
+    map_row![(Push d64) 8 times], // 50 to 57
+    map_row![(Pop d64) 8 times], // 58 to 5F
+    map_row![(Pusha) (Popa) (-) (by_code (Arpl E) (Movsxd E)) (-) (-) (-) (-)], // 60
+    map_row![
+        (Push iz d64) (Imul E iz) (Push ib_signed d64) (Imul E ib_signed) // 68
+        (Ins) (Ins) (Outs) (Outs) // 6C
+    ],
+    map_row![(Jcc ib_signed f64) 8 times], // 70 to 77
+    map_row![(Jcc ib_signed f64) 8 times], // 78 to 7F
+    map_row![
+        (group GROUP_1_IB) (group GROUP_1_IZ) (group GROUP_1_IB) (group GROUP_1_IB_SIGNED) // 80
+        (Test E) (Test E) (Xchg E lock) (Xchg E lock) // 84
+    ],
+    map_row![
+        (Mov E) (Mov E) (Mov E) (Mov E) // 88
+        (Movseg E_from_S) (Lea M) (Movseg S_from_E) (group GROUP_1A) // 8C
+    ],
+    map_row![(by_rex_b(Nop)(Pause)(Xchg))(Xchg)(Xchg)(Xchg)(Xchg)(Xchg)(Xchg)(Xchg)], // 90
+    map_row![(Cbw) (Cwd) (Callf far) (-) (Pushf d64) (Popf d64) (Sahf) (Lahf)], // 98
+    map_row![(Mov moffs) (Mov moffs) (Mov moffs) (Mov moffs) (Movs) (Movs) (Cmps) (Cmps)], // A0
+    map_row![(Test ib) (Test iz) (Stos) (Stos) (Lods) (Lods) (Scas) (Scas)], // A8
+    map_row![(Mov ib) 8 times], // B0 to B7
+    map_row![(Mov iv) 8 times], // B8 to BF
+    map_row![
+        (group GROUP_2_IB) (group GROUP_2_IB) (Ret iw f64) (Ret f64) // C0
+        (by_code (Les only_M) (-)) (by_code (Lds only_M) (-)) (group GROUP_11_IB) (group GROUP_11_IZ) // C4
+    ],
+    map_row![(Enter iw_ib d64) (Leave d64) (Retf iw) (Retf) (Int3) (Int ib) (Into) (Iret)], // C8
+    map_row![
+        (group GROUP_2) (group GROUP_2) (group GROUP_2) (group GROUP_2) // D0
+        (Aam ib) (Aad ib) (-) (Xlat) // D4
+    ],
+    map_row![(-) 8 times], // D8 to DF
+    map_row![
+        (Loopne ib_signed f64) (Loope ib_signed f64) (Loop ib_signed f64) (Jcxz ib_signed f64) // E0
+        (In ib) (In ib) (Out ib) (Out ib) // E4
+    ],
+    map_row![(Call iz f64) (Jmp iz f64) (Jmpf far) (Jmp ib_signed f64) (In) (In) (Out) (Out)], // E8
+    map_row![(-) (-) (-) (-) (Hlt) (Cmc) (group GROUP_3_IB) (group GROUP_3_IZ)], // F0
+    map_row![(Clc) (Stc) (Cli) (Sti) (Cld) (Std) (group GROUP_4) (group GROUP_5)], // F8
 ];
 
 /// The opcodes after 0F.
-pub static TWO_BYTE: [Entry; 256] = [
-    // 0F 00
-    Entry::Group(17),
-    Entry::Group(18),
-    Entry::Alone(plain!(Lar, Any, Nothing)),
-    Entry::Alone(plain!(Lsl, Any, Nothing)),
-    Entry::Alone(Cell::Outside),
-    Entry::Alone(Cell::Outside),
-    Entry::Alone(plain!(Clts, Nothing, Nothing)),
-    Entry::Alone(Cell::Outside),
-    Entry::Alone(plain!(Invd, Nothing, Nothing)),
-    Entry::Alone(plain!(Wbinvd, Nothing, Nothing)),
-    Entry::Alone(Cell::Outside),
-    Entry::Alone(Cell::Invalid),
-    Entry::Alone(Cell::Outside),
-    Entry::Alone(plain!(Nop, Any, Nothing)),
-    Entry::Alone(Cell::Outside),
-    Entry::Alone(Cell::Outside),
-    // 0F 10
-    Entry::Alone(Cell::Outside),
-    Entry::Alone(Cell::Outside),
-    Entry::Alone(Cell::Outside),
-    Entry::Alone(Cell::Outside),
-    Entry::Alone(Cell::Outside),
-    Entry::Alone(Cell::Outside),
-    Entry::Alone(Cell::Outside),
-    Entry::Alone(Cell::Outside),
-    Entry::Alone(plain!(Nop, Any, Nothing)),
-    Entry::Alone(plain!(Nop, Any, Nothing)),
-    Entry::Alone(plain!(Nop, Any, Nothing)),
-    Entry::Alone(plain!(Nop, Any, Nothing)),
-    Entry::Alone(plain!(Nop, Any, Nothing)),
-    Entry::Alone(plain!(Nop, Any, Nothing)),
-    Entry::Alone(plain!(Nop, Any, Nothing)),
-    Entry::Alone(plain!(Nop, Any, Nothing)),
-    // 0F 20
-    Entry::Alone(plain!(Movcr, Control, Nothing)),
-    Entry::Alone(Cell::Outside),
-    Entry::Alone(plain!(Movcr, Control, Nothing)),
-    Entry::Alone(Cell::Outside),
-    Entry::Alone(Cell::Outside),
-    Entry::Alone(Cell::Outside),
-    Entry::Alone(Cell::Outside),
-    Entry::Alone(Cell::Outside),
-    Entry::Alone(Cell::Outside),
-    Entry::Alone(Cell::Outside),
-    Entry::Alone(Cell::Outside),
-    Entry::Alone(Cell::Outside),
-    Entry::Alone(Cell::Outside),
-    Entry::Alone(Cell::Outside),
-    Entry::Alone(Cell::Outside),
-    Entry::Alone(Cell::Outside),
-    // 0F 30
-    Entry::Alone(plain!(Wrmsr, Nothing, Nothing)),
-    Entry::Alone(plain!(Rdtsc, Nothing, Nothing)),
-    Entry::Alone(plain!(Rdmsr, Nothing, Nothing)),
-    Entry::Alone(Cell::Outside),
-    Entry::Alone(Cell::Outside),
-    Entry::Alone(Cell::Outside),
-    Entry::Alone(Cell::Outside),
-    Entry::Alone(Cell::Outside),
-    Entry::Alone(Cell::Outside),
-    Entry::Alone(Cell::Outside),
-    Entry::Alone(Cell::Outside),
-    Entry::Alone(Cell::Outside),
-    Entry::Alone(Cell::Outside),
-    Entry::Alone(Cell::Outside),
-    Entry::Alone(Cell::Outside),
-    Entry::Alone(Cell::Outside),
-    // 0F 40
-    Entry::Alone(plain!(Cmov, Any, Nothing)),
-    Entry::Alone(plain!(Cmov, Any, Nothing)),
-    Entry::Alone(plain!(Cmov, Any, Nothing)),
-    Entry::Alone(plain!(Cmov, Any, Nothing)),
-    Entry::Alone(plain!(Cmov, Any, Nothing)),
-    Entry::Alone(plain!(Cmov, Any, Nothing)),
-    Entry::Alone(plain!(Cmov, Any, Nothing)),
-    Entry::Alone(plain!(Cmov, Any, Nothing)),
-    Entry::Alone(plain!(Cmov, Any, Nothing)),
-    Entry::Alone(plain!(Cmov, Any, Nothing)),
-    Entry::Alone(plain!(Cmov, Any, Nothing)),
-    Entry::Alone(plain!(Cmov, Any, Nothing)),
-    Entry::Alone(plain!(Cmov, Any, Nothing)),
-    Entry::Alone(plain!(Cmov, Any, Nothing)),
-    Entry::Alone(plain!(Cmov, Any, Nothing)),
-    Entry::Alone(plain!(Cmov, Any, Nothing)),
-    // 0F 50
-    Entry::Alone(Cell::Outside),
-    Entry::Alone(Cell::Outside),
-    Entry::Alone(Cell::Outside),
-    Entry::Alone(Cell::Outside),
-    Entry::Alone(Cell::Outside),
-    Entry::Alone(Cell::Outside),
-    Entry::Alone(Cell::Outside),
-    Entry::Alone(Cell::Outside),
-    Entry::Alone(Cell::Outside),
-    Entry::Alone(Cell::Outside),
-    Entry::Alone(Cell::Outside),
-    Entry::Alone(Cell::Outside),
-    Entry::Alone(Cell::Outside),
-    Entry::Alone(Cell::Outside),
-    Entry::Alone(Cell::Outside),
-    Entry::Alone(Cell::Outside),
-    // 0F 60
-    Entry::Alone(Cell::Outside),
-    Entry::Alone(Cell::Outside),
-    Entry::Alone(Cell::Outside),
-    Entry::Alone(Cell::Outside),
-    Entry::Alone(Cell::Outside),
-    Entry::Alone(Cell::Outside),
-    Entry::Alone(Cell::Outside),
-    Entry::Alone(Cell::Outside),
-    Entry::Alone(Cell::Outside),
-    Entry::Alone(Cell::Outside),
-    Entry::Alone(Cell::Outside),
-    Entry::Alone(Cell::Outside),
-    Entry::Alone(Cell::Outside),
-    Entry::Alone(Cell::Outside),
-    Entry::Alone(Cell::Outside),
-    Entry::Alone(Cell::Outside),
-    // 0F 70
-    Entry::Alone(Cell::Outside),
-    Entry::Alone(Cell::Outside),
-    Entry::Alone(Cell::Outside),
-    Entry::Alone(Cell::Outside),
-    Entry::Alone(Cell::Outside),
-    Entry::Alone(Cell::Outside),
-    Entry::Alone(Cell::Outside),
-    Entry::Alone(Cell::Outside),
-    Entry::Alone(Cell::Outside),
-    Entry::Alone(Cell::Outside),
-    Entry::Alone(Cell::Outside),
-    Entry::Alone(Cell::Outside),
-    Entry::Alone(Cell::Outside),
-    Entry::Alone(Cell::Outside),
-    Entry::Alone(Cell::Outside),
-    Entry::Alone(Cell::Outside),
-    // 0F 80
-    Entry::Alone(near!(Jcc, Nothing, Full)),
-    Entry::Alone(near!(Jcc, Nothing, Full)),
-    Entry::Alone(near!(Jcc, Nothing, Full)),
-    Entry::Alone(near!(Jcc, Nothing, Full)),
-    Entry::Alone(near!(Jcc, Nothing, Full)),
-    Entry::Alone(near!(Jcc, Nothing, Full)),
-    Entry::Alone(near!(Jcc, Nothing, Full)),
-    Entry::Alone(near!(Jcc, Nothing, Full)),
-    Entry::Alone(near!(Jcc, Nothing, Full)),
-    Entry::Alone(near!(Jcc, Nothing, Full)),
-    Entry::Alone(near!(Jcc, Nothing, Full)),
-    Entry::Alone(near!(Jcc, Nothing, Full)),
-    Entry::Alone(near!(Jcc, Nothing, Full)),
-    Entry::Alone(near!(Jcc, Nothing, Full)),
-    Entry::Alone(near!(Jcc, Nothing, Full)),
-    Entry::Alone(near!(Jcc, Nothing, Full)),
-    // 0F 90
-    Entry::Alone(plain!(Set, Any, Nothing)),
-    Entry::Alone(plain!(Set, Any, Nothing)),
-    Entry::Alone(plain!(Set, Any, Nothing)),
-    Entry::Alone(plain!(Set, Any, Nothing)),
-    Entry::Alone(plain!(Set, Any, Nothing)),
-    Entry::Alone(plain!(Set, Any, Nothing)),
-    Entry::Alone(plain!(Set, Any, Nothing)),
-    Entry::Alone(plain!(Set, Any, Nothing)),
-    Entry::Alone(plain!(Set, Any, Nothing)),
-    Entry::Alone(plain!(Set, Any, Nothing)),
-    Entry::Alone(plain!(Set, Any, Nothing)),
-    Entry::Alone(plain!(Set, Any, Nothing)),
-    Entry::Alone(plain!(Set, Any, Nothing)),
-    Entry::Alone(plain!(Set, Any, Nothing)),
-    Entry::Alone(plain!(Set, Any, Nothing)),
-    Entry::Alone(plain!(Set, Any, Nothing)),
-    // 0F A0
-    Entry::Alone(stack!(Pushseg, Nothing, Nothing)),
-    Entry::Alone(stack!(Popseg, Nothing, Nothing)),
-    Entry::Alone(plain!(Cpuid, Nothing, Nothing)),
-    Entry::Alone(plain!(Bt, Any, Nothing)),
-    Entry::Alone(plain!(Shld, Any, Byte)),
-    Entry::Alone(plain!(Shld, Any, Nothing)),
-    Entry::Alone(Cell::Outside),
-    Entry::Alone(Cell::Outside),
-    Entry::Alone(stack!(Pushseg, Nothing, Nothing)),
-    Entry::Alone(stack!(Popseg, Nothing, Nothing)),
-    Entry::Alone(Cell::Outside),
-    Entry::Alone(locked!(Bts, Any, Nothing)),
-    Entry::Alone(plain!(Shrd, Any, Byte)),
-    Entry::Alone(plain!(Shrd, Any, Nothing)),
-    Entry::Alone(Cell::Outside),
-    Entry::Alone(plain!(Imul, Any, Nothing)),
-    // 0F B0
-    Entry::Alone(locked!(Cmpxchg, Any, Nothing)),
-    Entry::Alone(locked!(Cmpxchg, Any, Nothing)),
-    Entry::Alone(plain!(Lss, Memory, Nothing)),
-    Entry::Alone(locked!(Btr, Any, Nothing)),
-    Entry::Alone(plain!(Lfs, Memory, Nothing)),
-    Entry::Alone(plain!(Lgs, Memory, Nothing)),
-    Entry::Alone(plain!(Movzx, Any, Nothing)),
-    Entry::Alone(plain!(Movzx, Any, Nothing)),
-    Entry::ByRep(Cell::Outside, plain!(Popcnt, Any, Nothing)),
-    Entry::Alone(Cell::Outside),
-    Entry::Group(19),
-    Entry::Alone(locked!(Btc, Any, Nothing)),
-    Entry::Alone(plain!(Bsf, Any, Nothing)),
-    Entry::Alone(plain!(Bsr, Any, Nothing)),
-    Entry::Alone(plain!(Movsx, Any, Nothing)),
-    Entry::Alone(plain!(Movsx, Any, Nothing)),
-    // 0F C0
-    Entry::Alone(locked!(Xadd, Any, Nothing)),
-    Entry::Alone(locked!(Xadd, Any, Nothing)),
-    Entry::Alone(Cell::Outside),
-    Entry::Alone(Cell::Outside),
-    Entry::Alone(Cell::Outside),
-    Entry::Alone(Cell::Outside),
-    Entry::Alone(Cell::Outside),
-    Entry::Group(20),
-    Entry::Alone(plain!(Bswap, Nothing, Nothing)),
-    Entry::Alone(plain!(Bswap, Nothing, Nothing)),
-    Entry::Alone(plain!(Bswap, Nothing, Nothing)),
-    Entry::Alone(plain!(Bswap, Nothing, Nothing)),
-    Entry::Alone(plain!(Bswap, Nothing, Nothing)),
-    Entry::Alone(plain!(Bswap, Nothing, Nothing)),
-    Entry::Alone(plain!(Bswap, Nothing, Nothing)),
-    Entry::Alone(plain!(Bswap, Nothing, Nothing)),
-    // 0F D0
-    Entry::Alone(Cell::Outside),
-    Entry::Alone(Cell::Outside),
-    Entry::Alone(Cell::Outside),
-    Entry::Alone(Cell::Outside),
-    Entry::Alone(Cell::Outside),
-    Entry::Alone(Cell::Outside),
-    Entry::Alone(Cell::Outside),
-    Entry::Alone(Cell::Outside),
-    Entry::Alone(Cell::Outside),
-    Entry::Alone(Cell::Outside),
-    Entry::Alone(Cell::Outside),
-    Entry::Alone(Cell::Outside),
-    Entry::Alone(Cell::Outside),
-    Entry::Alone(Cell::Outside),
-    Entry::Alone(Cell::Outside),
-    Entry::Alone(Cell::Outside),
-    // 0F E0
-    Entry::Alone(Cell::Outside),
-    Entry::Alone(Cell::Outside),
-    Entry::Alone(Cell::Outside),
-    Entry::Alone(Cell::Outside),
-    Entry::Alone(Cell::Outside),
-    Entry::Alone(Cell::Outside),
-    Entry::Alone(Cell::Outside),
-    Entry::Alone(Cell::Outside),
-    Entry::Alone(Cell::Outside),
-    Entry::Alone(Cell::Outside),
-    Entry::Alone(Cell::Outside),
-    Entry::Alone(Cell::Outside),
-    Entry::Alone(Cell::Outside),
-    Entry::Alone(Cell::Outside),
-    Entry::Alone(Cell::Outside),
-    Entry::Alone(Cell::Outside),
-    // 0F F0
-    Entry::Alone(Cell::Outside),
-    Entry::Alone(Cell::Outside),
-    Entry::Alone(Cell::Outside),
-    Entry::Alone(Cell::Outside),
-    Entry::Alone(Cell::Outside),
-    Entry::Alone(Cell::Outside),
-    Entry::Alone(Cell::Outside),
-    Entry::Alone(Cell::Outside),
-    Entry::Alone(Cell::Outside),
-    Entry::Alone(Cell::Outside),
-    Entry::Alone(Cell::Outside),
-    Entry::Alone(Cell::Outside),
-    Entry::Alone(Cell::Outside),
-    Entry::Alone(Cell::Outside),
-    Entry::Alone(Cell::Outside),
-    Entry::Alone(Cell::Outside),
+pub static TWO_BYTE: [[MapEntry; 8]; 32] = [
+    map_row![(group GROUP_6) (group GROUP_7) (Lar E) (Lsl E) (-) (-) (Clts) (-)], // 0F 00
+    map_row![(Invd) (Wbinvd) (-) (invalid) (-) (Nop E) (-) (-)], // 0F 08
+    map_row![(-) 8 times], // 0F 10 to 17
+    map_row![(Nop E) 8 times], // 0F 18 to 1F
+    map_row![(Movcr control) (-) (Movcr control) (-) (-) (-) (-) (-)], // 0F 20
+    map_row![(-) 8 times], // 0F 28 to 2F
+    map_row![(Wrmsr) (Rdtsc) (Rdmsr) (-) (-) (-) (-) (-)], // 0F 30
+    map_row![(-) 8 times], // 0F 38 to 3F
+    map_row![(Cmov E) 8 times], // 0F 40 to 47
+    map_row![(Cmov E) 8 times], // 0F 48 to 4F
+    map_row![(-) 8 times], // 0F 50 to 57
+    map_row![(-) 8 times], // 0F 58 to 5F
+    map_row![(-) 8 times], // 0F 60 to 67
+    map_row![(-) 8 times], // 0F 68 to 6F
+    map_row![(-) 8 times], // 0F 70 to 77
+    map_row![(-) 8 times], // 0F 78 to 7F
+    map_row![(Jcc iz f64) 8 times], // 0F 80 to 87
+    map_row![(Jcc iz f64) 8 times], // 0F 88 to 8F
+    map_row![(Set E) 8 times], // 0F 90 to 97
+    map_row![(Set E) 8 times], // 0F 98 to 9F
+    map_row![(Pushseg d64) (Popseg d64) (Cpuid) (Bt E) (Shld E ib) (Shld E) (-) (-)], // 0F A0
+    map_row![(Pushseg d64) (Popseg d64) (-) (Bts E lock) (Shrd E ib) (Shrd E) (-) (Imul E)], // 0F A8
+    map_row![
+        (Cmpxchg E lock) (Cmpxchg E lock) (Lss M) (Btr E lock) // 0F B0
+        (Lfs M) (Lgs M) (Movzx E) (Movzx E) // 0F B4
+    ],
+    map_row![
+        (by_f3 (-) (Popcnt E)) (-) (group GROUP_8) (Btc E lock) // 0F B8
+        (Bsf E) (Bsr E) (Movsx E) (Movsx E) // 0F BC
+    ],
+    map_row![(Xadd E lock) (Xadd E lock) (-) (-) (-) (-) (-) (group GROUP_9)], // 0F C0
+    map_row![(Bswap) 8 times], // 0F C8 to CF
+    map_row![(-) 8 times], // 0F D0 to D7
+    map_row![(-) 8 times], // 0F D8 to DF
+    map_row![(-) 8 times], // 0F E0 to E7
+    map_row![(-) 8 times], // 0F E8 to EF
+    map_row![(-) 8 times], // 0F F0 to F7
+    map_row![(-) 8 times], // 0F F8 to FF
 ];

@@ -1,7 +1,9 @@
+//! The rows of the instruction table.
+
 /// The rows of the instruction table. A row is one instruction or several that differ in a number
 /// alone: the condition of `Jcc`, `Set` and `Cmov`, the segment of `Pushseg`, `Popseg` and
 /// `Movseg`, the control register of `Movcr`.
-#[derive(Clone, Copy, Drop, PartialEq, Eq, Debug)]
+#[derive(Clone, Copy, PartialEq, Eq, Debug)]
 pub enum Row {
     Add,
     Or,

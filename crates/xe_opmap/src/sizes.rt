@@ -1,8 +1,10 @@
+//! Operand size and address size, and what the opcode maps look at beside the opcode.
+
 ghost use Rattle.std.specs.Prelude.{◌≡◌, ◌<◌, ◌≤◌, Bool, false, IsTrue, ◌==◌, ◌||◌};
 ghost use Rattle.xe_modrm.specs.Prefix.{is_64_bit};
-ghost use Rattle.xe_opmap.specs.Encoding.{rex_bit, setting_of, opsize_of, adsize_of, IsSize};
+ghost use Rattle.xe_opmap.specs.Encoding.{rex_bit, conditions_of, opsize_of, adsize_of, IsSize};
 
-use crate::shape::{Setting, Width};
+use crate::form::{MapConditions, SizeIn64Bit};
 use xe_base::CodeSize;
 use xe_modrm::Prefixes;
 
@@ -28,18 +30,18 @@ pub fn rex_bit(rex: Option<u8>, k: u32) -> bool
 }
 
 /// What the opcode maps look at beside opcode and reg field.
-pub fn setting_of(size: CodeSize, pre: &Prefixes) -> Setting
-    ensures { result ≡ setting_of size pre.now }
+pub fn conditions_of(size: CodeSize, pre: &Prefixes) -> MapConditions
+    ensures { result ≡ conditions_of size pre.now }
 {
-    Setting {
-        long: is_64_bit(size),
-        rep: pre.rep == 0xF3,
+    MapConditions {
+        in_64_bit: is_64_bit(size),
+        after_f3: pre.rep == 0xF3,
         rex_b: rex_bit(pre.rex, 0),
     }
 }
 
 /// Operand size in bytes.
-pub fn opsize_of(size: CodeSize, pre: &Prefixes, width: Width) -> u8
+pub fn opsize_of(size: CodeSize, pre: &Prefixes, width: SizeIn64Bit) -> u8
     ensures value { result ≡ opsize_of size pre.now width }
     ensures sizes { IsSize result }
     ensures below { is_64_bit size ≡ false → result ≤ 4 }
@@ -50,11 +52,11 @@ pub fn opsize_of(size: CodeSize, pre: &Prefixes, width: Width) -> u8
         CodeSize::B64 => {
             let wide = rex_bit(pre.rex, 3);
             match width {
-                Width::Near => 8,
-                _ if wide => 8,
-                _ if pre.opsize => 2,
-                Width::Usual => 4,
-                Width::Stack => 8,
+                SizeIn64Bit::Near => 8,
+                SizeIn64Bit::Usual | SizeIn64Bit::Stack if wide => 8,
+                SizeIn64Bit::Usual | SizeIn64Bit::Stack if pre.opsize => 2,
+                SizeIn64Bit::Usual => 4,
+                SizeIn64Bit::Stack => 8,
             }
         }
     }

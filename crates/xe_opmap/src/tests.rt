@@ -1,3 +1,5 @@
+//! What no clause says: each public call once on its happy path.
+
 use crate::{Decoded, Row, decode, row_name};
 use std::test::Fail;
 use xe_base::CodeSize;

@@ -1,3 +1,5 @@
+//! The prefixes in front of an opcode.
+
 ghost use Rattle.std.specs.Prelude.{◌≡◌, if◌then◌else◌};
 ghost use Rattle.xe_modrm.specs.Reader.{Within};
 ghost use Rattle.xe_modrm.specs.Valid.{IsGotPrefixes};
@@ -30,7 +32,7 @@ fn with_seg(found: Prefixes, seg: SegName) -> Prefixes
 fn noted(size: CodeSize, found: Prefixes, byte: u8) -> Option<Prefixes>
     ensures { result ≡ (if is_prefix size byte then Some (prefixes_then size found byte) else None) }
 {
-    let long = is_64_bit(size);
+    let in_64_bit = is_64_bit(size);
     // A REX byte that isn't the last of the prefixes counts for nothing.
     let found = Prefixes { rex: None, ..found };
     match byte {
@@ -39,10 +41,10 @@ fn noted(size: CodeSize, found: Prefixes, byte: u8) -> Option<Prefixes>
             ..found
         }),
         0xF2 | 0xF3 => Some(Prefixes { rep: byte, ..found }),
-        0x26 if !long => Some(with_seg(found, SegName::Es)),
-        0x2E if !long => Some(with_seg(found, SegName::Cs)),
-        0x36 if !long => Some(with_seg(found, SegName::Ss)),
-        0x3E if !long => Some(with_seg(found, SegName::Ds)),
+        0x26 if !in_64_bit => Some(with_seg(found, SegName::Es)),
+        0x2E if !in_64_bit => Some(with_seg(found, SegName::Cs)),
+        0x36 if !in_64_bit => Some(with_seg(found, SegName::Ss)),
+        0x3E if !in_64_bit => Some(with_seg(found, SegName::Ds)),
         0x26 | 0x2E | 0x36 | 0x3E => Some(found),
         0x64 => Some(with_seg(found, SegName::Fs)),
         0x65 => Some(with_seg(found, SegName::Gs)),
@@ -54,7 +56,7 @@ fn noted(size: CodeSize, found: Prefixes, byte: u8) -> Option<Prefixes>
             adsize: true,
             ..found
         }),
-        0x40..=0x4F if long => Some(Prefixes {
+        0x40..=0x4F if in_64_bit => Some(Prefixes {
             rex: Some(byte),
             ..found
         }),
