@@ -1,0 +1,7 @@
+pub mod EntryLists
+pub mod FormatLaws
+pub mod Descents
+pub mod Bounds
+pub mod UsedLaws
+pub mod Dependence
+mod TestRam

@@ -1,0 +1,31 @@
+use Rattle.std.proofs.Common.{arith, refl, sym, ap, ◌≡◌, ◌∙◌, ◌+◌, ◌-◌, ◌*◌, length, drop, get_or}
+use Rattle.std.proofs.lemmas.List.{drop_all}
+use Rattle.xe_base.specs.Bytes.{num}
+use Rattle.xe_base.proofs.Bytes.{num-nil, num-below, num-drop, fits-more}
+use Rattle.xe_walk.proofs.tests.number_of.Goals as goal
+
+pub down-init : goal.down-init
+down-init c = record { in_range = omega arith; is = rw (drop_all (length c.args.bytes.now) c.args.bytes.now (omega arith), num-nil) refl }
+
+pub overflow_mul-number : goal.overflow_mul-number
+overflow_mul-number c =
+    let f = fits-more c.args.bytes.now c.down.at c.down.number (λ k. let t = c.type_inv.bytes k in omega arith) c.requires c.down-test.true c.down.invariant.in_range c.down.invariant.is in
+    omega arith
+
+pub overflow_add-number : goal.overflow_add-number
+overflow_add-number c =
+    let f = fits-more c.args.bytes.now c.down.at c.down.number (λ k. let t = c.type_inv.bytes k in omega arith) c.requires c.down-test.true c.down.invariant.in_range c.down.invariant.is in
+    omega arith
+
+pub returns-clause-below : goal.returns-clause-below
+returns-clause-below c =
+    let z : c.down.at ≡ 0 = omega arith in
+    let e : c.down.number ≡ num c.args.bytes.now = rw z at c.down.invariant.is in
+    rw e (num-below c.args.bytes.now (λ k. let t = c.type_inv.bytes k in omega arith))
+
+pub down-preserved : goal.down-preserved
+down-preserved c =
+    let e : c.down.at - 1 + 1 ≡ c.down.at = omega arith in
+    let d : num (drop (c.down.at - 1) c.args.bytes.now) ≡ num (drop (c.down.at - 1 + 1) c.args.bytes.now) * 256 + get_or c.args.bytes.now (c.down.at - 1) 0 = num-drop c.args.bytes.now (c.down.at - 1) (omega arith) in
+    let f : num (drop (c.down.at - 1) c.args.bytes.now) ≡ num (drop c.down.at c.args.bytes.now) * 256 + get_or c.args.bytes.now (c.down.at - 1) 0 = rw e at d in
+    record { in_range = omega arith; is = ap (λ x. x * 256 + get_or c.args.bytes.now (c.down.at - 1) 0) c.down.invariant.is ∙ sym f }
