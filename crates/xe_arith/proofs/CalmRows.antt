@@ -1,7 +1,8 @@
-use Rattle.std.proofs.Common.{ℕ, ◌≡◌, Bool, true, false, not, ◌==◌, ◌&&◌, ◌-◌, ◌^◌, refl, ◌∙◌, bit_and, Option, Some, None}
+use Rattle.std.proofs.Common.{ℕ, ◌≡◌, Bool, true, false, not, ◌==◌, ◌&&◌, ◌-◌, ◌^◌, refl, ◌∙◌, bit_and, Option, Some, None, Result, Ok, Err, IfOk}
 use Rattle.std.proofs.lemmas.Nat.{and_or_apart, and_assoc}
 use Rattle.xe_base.specs.Calm.{fixed_flags}
-use Rattle.xe_base.specs.State.{Valid}
+use Rattle.xe_base.specs.Exceptions.{plain_exception, exception, divide_error, general_protection}
+use Rattle.xe_base.specs.State.{Valid, mode_of}
 use Rattle.xe_base.specs.declared.cpu.Cpu.{Cpu}
 use Rattle.xe_opmap.specs.declared.insn.Insn.{Insn}
 use Rattle.xe_opmap.specs.declared.row.Row.{Row}
@@ -15,11 +16,15 @@ use Rattle.xe_flags.specs.declared.scans.ScanOp.{ScanOp}
 use Rattle.xe_flags.specs.Status.{at_place}
 use Rattle.xe_flags.proofs.FlagSet.{fixed_written, fixed_unary, fixed_shift, fixed_double}
 use Rattle.xe_ctx.specs.Finishes.{EachGives, IsSound}
-use Rattle.xe_ctx.specs.Operand.{IsOf, has_rex, reads, writes, operand_of, ends}
+use Rattle.xe_ctx.specs.Operand.{IsOf, ax, has_rex, reads, writes, operand_of, ends}
 use Rattle.xe_ctx.specs.Tree.{fault}
 use Rattle.xe_ctx.specs.declared.operand.Operand.{Operand}
 use Rattle.xe_ctx.specs.declared.operand.Operand.TheVariants.{Register, Memory}
-use Rattle.xe_ctx.proofs.FinishLaws.{each_then, each_implies}
+use Rattle.xe_ctx.specs.Is.{Sight, Is}
+use Rattle.xe_ctx.specs.Runs.{finished}
+use Rattle.xe_ctx.specs.declared.stop.End.{End}
+use Rattle.xe_ctx.specs.declared.stop.Stop.{Stop}
+use Rattle.xe_ctx.proofs.FinishLaws.{each_then, each_implies, gives_of}
 use Rattle.xe_base.specs.declared.segment.SegName.{SegName}
 use Rattle.xe_arith.specs.Alu.{alu_row, cmp_row, test_row}
 use Rattle.xe_arith.specs.Condition.{cmov_row, set_row}
@@ -27,15 +32,15 @@ use Rattle.xe_arith.specs.Flag.{carry_row, with_direction, direction_row, sahf_r
 use Rattle.xe_arith.specs.Moves.{mov_row, lea_row, xchg_row, nop_row, xlat_row, bswap_row}
 use Rattle.xe_arith.specs.Bit.{bt_row, bit_row, found_written, scan_row}
 use Rattle.xe_arith.specs.Decimal.{divides, decimal_row}
-use Rattle.xe_arith.specs.Exchange.{xadd_row, put_back, compared, cmpxchg_row, pair_loaded, pair_row, is_misaligned, general_protection, pair_at, cmpxchg8b_row}
+use Rattle.xe_arith.specs.Exchange.{xadd_row, put_back, compared, cmpxchg_row, pair_loaded, pair_row, is_misaligned, pair_at, cmpxchg8b_row}
 use Rattle.xe_arith.specs.Extend.{cbw_row, cwd_row, movzx_row, movsx_row}
-use Rattle.xe_arith.specs.Multiply.{pair_written, mul_row, imul_to_register, imul_row, divide_error, quotient_row, div_row}
+use Rattle.xe_arith.specs.Multiply.{pair_written, mul_row, imul_to_register, imul_row, quotient_row, div_row}
 use Rattle.xe_arith.specs.Sized.{low, with_flags}
 use Rattle.xe_flags.specs.Decimals.{bcd_ax, bcd_flags}
 use Rattle.xe_arith.specs.Shift.{shift_row, double_row}
 use Rattle.xe_arith.specs.Unary.{unary_row}
 use Rattle.xe_arith.specs.Plain.{EndsPlainly}
-use Rattle.xe_arith.specs.Rows.{row_at, row_of, is_row}
+use Rattle.xe_arith.specs.Rows.{row_at, or_undefined, row_of, is_row}
 use Rattle.xe_arith.proofs.Tame.{Tame, tame_same, tame_flags, tame_register, tame_operand, tame_if, plain_end, plain_sound, asked_then, written_end, each_if}
 
 -- DF is none of the bits that no instruction changes
@@ -137,11 +142,11 @@ module _ (insn : Insn) (cpu : Cpu) where
 
   calm_decimal : (op : BcdOp) → EachGives (EndsPlainly insn cpu) (decimal_row op insn cpu)
   calm_decimal op =
-      let ax = low 2 (reads insn cpu 2 0) in
+      let word = low 2 (reads insn cpu 2 ax) in
       let imm = low 1 insn.imm in
-      let after : Cpu = writes insn (with_flags cpu (bcd_flags op ax imm cpu.rflags)) 2 0 (bcd_ax op ax imm cpu.rflags) in
-      each_if (EndsPlainly insn cpu) (divides op && imm == 0) (fault divide_error) (ends insn after) tt
-      (plain_end insn cpu after (tame_register 2 (has_rex insn) 0 (bcd_ax op ax imm cpu.rflags) (tame_flags (bcd_flags op ax imm cpu.rflags) (tame_same cpu) (fixed_written cpu.rflags _))))
+      let after : Cpu = writes insn (with_flags cpu (bcd_flags op word imm cpu.rflags)) 2 ax (bcd_ax op word imm cpu.rflags) in
+      each_if (EndsPlainly insn cpu) (divides op && imm == 0) (fault (plain_exception divide_error)) (ends insn after) tt
+      (plain_end insn cpu after (tame_register 2 (has_rex insn) ax (bcd_ax op word imm cpu.rflags) (tame_flags (bcd_flags op word imm cpu.rflags) (tame_same cpu) (fixed_written cpu.rflags _))))
 
   calm_bt : EachGives (EndsPlainly insn cpu) (bt_row insn cpu)
   calm_bt = asked_then (EndsPlainly insn cpu) _ _ (λ a. plain_end insn cpu _ (tame_flags _ (tame_same cpu) (fixed_written cpu.rflags _)))
@@ -179,13 +184,13 @@ module _ (insn : Insn) (cpu : Cpu) where
 
   calm_pair_at : (operand : Operand) → EachGives (EndsPlainly insn cpu) (pair_at insn cpu operand)
   calm_pair_at (Register r) = tt
-  calm_pair_at (Memory seg offset) = each_if (EndsPlainly insn cpu) (is_misaligned insn cpu seg offset) (fault general_protection) (pair_row insn cpu seg offset) tt (calm_pair seg offset)
+  calm_pair_at (Memory seg offset) = each_if (EndsPlainly insn cpu) (is_misaligned insn cpu seg offset) (fault (exception (mode_of cpu) general_protection 0)) (pair_row insn cpu seg offset) tt (calm_pair seg offset)
 
   calm_cmpxchg8b : EachGives (EndsPlainly insn cpu) (cmpxchg8b_row insn cpu)
   calm_cmpxchg8b = calm_pair_at (operand_of insn cpu)
 
   -- a row of this crate
-  plain_at : (r : Row) → EachGives (EndsPlainly insn cpu) (row_at r insn cpu)
+  plain_at : (r : Row) → EachGives (EndsPlainly insn cpu) (or_undefined (row_at r) insn cpu)
   plain_at row.Mov = calm_mov
   plain_at row.Lea = calm_lea
   plain_at row.Xchg = calm_xchg
@@ -256,3 +261,8 @@ rows_plain insn cpu built = plain_at insn cpu insn.row
 
 pub rows_sound : (insn : Insn) (cpu : Cpu) → is_row insn.row ≡ true → IsOf cpu insn → Valid cpu → EachGives IsSound (row_of insn cpu)
 rows_sound insn cpu built of valid = each_implies (EndsPlainly insn cpu) IsSound (plain_sound insn cpu valid) (row_of insn cpu) (rows_plain insn cpu built)
+
+-- an instruction that finishes leaves a valid state
+pub finish_sound : (insn : Insn) (cpu after : Cpu) (res : Result End Stop) (old new : Sight) → is_row insn.row ≡ true → IsOf cpu insn → Is (row_of insn cpu) old (finished res after) new → Valid cpu → IfOk (finished res after) IsSound
+finish_sound insn cpu after (Ok e) old new built of_ ran valid = gives_of IsSound (row_of insn cpu) _ old new (rows_sound insn cpu built of_ valid) ran
+finish_sound insn cpu after (Err s) old new built of_ ran valid = tt

@@ -1,2 +1,3 @@
 pub mod Tame
 pub mod CalmRows
+pub mod BoundRows

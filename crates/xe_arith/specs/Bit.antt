@@ -1,14 +1,11 @@
-use Rattle.std.specs.Prelude.{ℕ, ◌*◌, ◌%◌, ◌==◌, pos, ◌+ℤ◌, ◌*ℤ◌, ℤ, Option, Some, None, if◌then◌else◌}
+use Rattle.std.specs.Prelude.{pos, ◌+ℤ◌, ◌*ℤ◌, ℤ, ◌*◌, ◌%◌, ◌==◌, if◌then◌else◌}
+use Rattle.xe_ctx.specs.Definition.{ℕ, Bool, Option, Some, None, Cpu, Insn, Tree, ◌>>=◌, operand_of, reg_of, reads, writes, read_operand, read_for_write, write_operand, ends}
 use Rattle.xe_base.specs.Words.{signed, wrapped}
-use Rattle.xe_base.specs.declared.cpu.Cpu.{Cpu}
-use Rattle.xe_opmap.specs.declared.insn.Insn.{Insn}
 use Rattle.xe_flags.specs.Arithmetic.{floor}
 use Rattle.xe_flags.specs.Bits.{bit_word, bit_flags}
 use Rattle.xe_flags.specs.Scans.{scan_found, scan_flags}
 use Rattle.xe_flags.specs.declared.bits.BitOp.{BitOp}
 use Rattle.xe_flags.specs.declared.scans.ScanOp.{ScanOp}
-use Rattle.xe_ctx.specs.Operand.{operand_of, reg_of, reads, writes, read_operand, read_for_write, write_operand, ends}
-use Rattle.xe_ctx.specs.Tree.{Tree, ◌>>=◌}
 use Rattle.xe_ctx.specs.declared.operand.Operand.{Operand}
 use Rattle.xe_ctx.specs.declared.operand.Operand.TheVariants.{Register, Memory}
 use Rattle.xe_ctx.specs.declared.stop.Finish.{Finish}
@@ -16,9 +13,13 @@ use Rattle.xe_arith.specs.Sized.{low, with_flags}
 
 -- Single bits (SDM volume 2, "BT", "BTS", "BTR", "BTC", "BSF", "BSR" and "POPCNT").
 
--- where the bit is named: in G, or in an immediate byte for 0F BA
+-- an immediate names the bit: 0F BA
+abbrev pub is_by_immediate : ℕ → Bool
+is_by_immediate opcode = opcode == 0x0FBA
+
+-- where the bit is named: in G, or in an immediate byte
 abbrev pub bit_offset : Insn → Cpu → ℕ
-bit_offset insn cpu = if insn.opcode == 0x0FBA then low 1 insn.imm else reads insn cpu insn.opsize (reg_of insn)
+bit_offset insn cpu = if is_by_immediate insn.opcode then low 1 insn.imm else reads insn cpu insn.opsize (reg_of insn)
 
 -- how many bytes on the operand lies that has the bit of a signed offset: whole operands of n bytes, up or down
 abbrev pub bytes_to_bit : ℕ → ℕ → ℤ
@@ -31,7 +32,7 @@ moved adsize bytes (Memory seg offset) = Memory seg (wrapped (8 * adsize) (pos o
 
 -- the operand that has the bit: an offset in a register reaches past E
 abbrev pub bit_operand : Insn → Cpu → Operand
-bit_operand insn cpu = if insn.opcode == 0x0FBA then operand_of insn cpu else moved insn.adsize (bytes_to_bit insn.opsize (bit_offset insn cpu)) (operand_of insn cpu)
+bit_operand insn cpu = if is_by_immediate insn.opcode then operand_of insn cpu else moved insn.adsize (bytes_to_bit insn.opsize (bit_offset insn cpu)) (operand_of insn cpu)
 
 -- the place of the bit in it
 abbrev pub bit_place : Insn → Cpu → ℕ

@@ -1,10 +1,7 @@
-use Rattle.std.specs.Prelude.{Bool, ◌%◌, if◌then◌else◌}
+use Rattle.std.specs.Prelude.{◌%◌, if◌then◌else◌}
+use Rattle.xe_ctx.specs.Definition.{Bool, Cpu, Insn, Tree, ◌>>=◌, operand_of, reg_of, reads, writes, read_operand, write_operand, ends}
 use Rattle.std.specs.Int.{from_bool}
-use Rattle.xe_base.specs.declared.cpu.Cpu.{Cpu}
-use Rattle.xe_opmap.specs.declared.insn.Insn.{Insn}
 use Rattle.xe_flags.specs.Conditions.{condition}
-use Rattle.xe_ctx.specs.Operand.{operand_of, reg_of, reads, writes, read_operand, write_operand, ends}
-use Rattle.xe_ctx.specs.Tree.{Tree, ◌>>=◌}
 use Rattle.xe_ctx.specs.declared.stop.Finish.{Finish}
 
 -- Instructions under a condition (SDM volume 2, "CMOVcc" and "SETcc").

@@ -1,14 +1,12 @@
-use Rattle.std.specs.Prelude.{ℕ, Bool, true, false, not, ◌+◌, ◌*◌, ◌/◌, ◌%◌, ◌^◌, ◌==◌, ◌&&◌, Some, None, if◌then◌else◌}
-use Rattle.xe_base.specs.declared.access.Fault.{Fault}
-use Rattle.xe_base.specs.declared.cpu.Cpu.{Cpu}
+use Rattle.std.specs.Prelude.{◌+◌, ◌*◌, ◌/◌, ◌%◌, ◌^◌, ◌==◌, ◌&&◌, if◌then◌else◌}
+use Rattle.xe_ctx.specs.Definition.{ℕ, Bool, true, false, not, Cpu, Insn, Tree, ◌>>=◌, fault, give, load_for_write, store, ax, bx, cx, dx, size_by_opcode, operand_of, reg_of, reads, writes, read_for_write, write_operand, ends}
+use Rattle.xe_base.specs.Exceptions.{plain_exception, exception, invalid_opcode, general_protection}
+use Rattle.xe_base.specs.State.{mode_of}
 use Rattle.xe_base.specs.declared.segment.SegName.{SegName}
 use Rattle.xe_base.specs.declared.segment.SegName.TheVariants.{Es, Cs, Ss, Ds, Fs, Gs}
-use Rattle.xe_opmap.specs.declared.insn.Insn.{Insn}
 use Rattle.xe_flags.specs.Arithmetic.{alu_word, alu_flags}
 use Rattle.xe_flags.specs.Status.{status_of, with_status}
 use Rattle.xe_flags.specs.declared.arithmetic.AluOp.TheVariants.{Add, Cmp}
-use Rattle.xe_ctx.specs.Operand.{size_by_opcode, operand_of, reg_of, reads, writes, read_for_write, write_operand, ends}
-use Rattle.xe_ctx.specs.Tree.{Tree, ◌>>=◌, fault, give, load_for_write, store}
 use Rattle.xe_ctx.specs.declared.operand.Operand.{Operand}
 use Rattle.xe_ctx.specs.declared.operand.Operand.TheVariants.{Register, Memory}
 use Rattle.xe_ctx.specs.declared.stop.Finish.{Finish}
@@ -33,14 +31,14 @@ put_back insn cpu (Memory seg offset) n value = write_operand insn cpu (Memory s
 -- CMPXCHG after the comparison: equal, E gets G; else the accumulator gets E, and E keeps its number
 unfoldable pub compared : Insn → Cpu → Operand → ℕ → ℕ → Tree Cpu
 compared insn cpu operand n value =
-    if reads insn cpu n 0 == value then write_operand insn cpu operand n (reads insn cpu n (reg_of insn))
-    else put_back insn (writes insn cpu n 0 value) operand n value
+    if reads insn cpu n ax == value then write_operand insn cpu operand n (reads insn cpu n (reg_of insn))
+    else put_back insn (writes insn cpu n ax value) operand n value
 
 abbrev pub cmpxchg_row : Insn → Cpu → Tree Finish
 cmpxchg_row insn cpu = do
   let n = size_by_opcode insn
   b ← read_for_write insn cpu (operand_of insn cpu) n
-  after ← compared insn (with_flags cpu (alu_flags (8 * n) Cmp (low n (reads insn cpu n 0)) (low n b) cpu.rflags)) (operand_of insn cpu) n b
+  after ← compared insn (with_flags cpu (alu_flags (8 * n) Cmp (low n (reads insn cpu n ax)) (low n b) cpu.rflags)) (operand_of insn cpu) n b
   ends insn after
 
 -- ---- CMPXCHG8B, and CMPXCHG16B with REX.W
@@ -55,24 +53,25 @@ joined n high word = low n high * 2 ^ (8 * n) + low n word
 
 -- rDX:rAX and rCX:rBX
 abbrev pub expected : Insn → Cpu → ℕ
-expected insn cpu = let n = half_size insn in joined n (reads insn cpu n 2) (reads insn cpu n 0)
+expected insn cpu = let n = half_size insn in joined n (reads insn cpu n dx) (reads insn cpu n ax)
 
 abbrev pub replacement : Insn → Cpu → ℕ
-replacement insn cpu = let n = half_size insn in joined n (reads insn cpu n 1) (reads insn cpu n 3)
+replacement insn cpu = let n = half_size insn in joined n (reads insn cpu n cx) (reads insn cpu n bx)
 
 -- what is stored, where memory held this number
 abbrev pub pair_stored : Insn → Cpu → ℕ → ℕ
 pair_stored insn cpu old = if old == expected insn cpu then replacement insn cpu else old
 
--- the registers then: ZF says whether the numbers were equal; where they weren't, rDX:rAX gets what memory holds
-abbrev pub with_zero : Cpu → Bool → Cpu
-with_zero cpu zero = with_flags cpu (with_status cpu.rflags (record (status_of cpu.rflags) { zero = zero }))
+-- the flags with this ZF
+abbrev pub with_zero : ℕ → Bool → ℕ
+with_zero flags zero = with_status flags (record (status_of flags) { zero = zero })
 
+-- the registers then: ZF says whether the numbers were equal; where they weren't, rDX:rAX gets what memory holds
 abbrev pub pair_loaded : Insn → Cpu → ℕ → Cpu
 pair_loaded insn cpu old =
     let n = half_size insn in
-    if old == expected insn cpu then with_zero cpu true
-    else writes insn (writes insn (with_zero cpu false) n 0 (old % 2 ^ (8 * n))) n 2 (old / 2 ^ (8 * n))
+    if old == expected insn cpu then with_flags cpu (with_zero cpu.rflags true)
+    else writes insn (writes insn (with_flags cpu (with_zero cpu.rflags false)) n ax (old % 2 ^ (8 * n))) n dx (old / 2 ^ (8 * n))
 
 abbrev pub pair_row : Insn → Cpu → SegName → ℕ → Tree Finish
 pair_row insn cpu seg offset = do
@@ -93,16 +92,10 @@ long_base cpu Gs = cpu.gs.base
 abbrev pub is_misaligned : Insn → Cpu → SegName → ℕ → Bool
 is_misaligned insn cpu seg offset = insn.opsize == 8 && not ((long_base cpu seg + offset) % 2 ^ 64 % 16 == 0)
 
-abbrev pub general_protection : Fault
-general_protection = record { vector = 13; code = Some 0; cr2 = None }
-
 -- a register has no such form: it is undefined
-abbrev pub undefined : Fault
-undefined = record { vector = 6; code = None; cr2 = None }
-
 abbrev pub pair_at : Insn → Cpu → Operand → Tree Finish
-pair_at insn cpu (Register r) = fault undefined
-pair_at insn cpu (Memory seg offset) = if is_misaligned insn cpu seg offset then fault general_protection else pair_row insn cpu seg offset
+pair_at insn cpu (Register r) = fault (plain_exception invalid_opcode)
+pair_at insn cpu (Memory seg offset) = if is_misaligned insn cpu seg offset then fault (exception (mode_of cpu) general_protection 0) else pair_row insn cpu seg offset
 
 abbrev pub cmpxchg8b_row : Insn → Cpu → Tree Finish
 cmpxchg8b_row insn cpu = pair_at insn cpu (operand_of insn cpu)

@@ -1,20 +1,23 @@
-use Rattle.std.specs.Prelude.{ℕ, Bool, ◌*◌, ◌%◌, ◌^◌, ◌==◌, nat_lt, if◌then◌else◌}
-use Rattle.xe_base.specs.declared.cpu.Cpu.{Cpu}
-use Rattle.xe_opmap.specs.declared.insn.Insn.{Insn}
+use Rattle.std.specs.Prelude.{◌*◌, ◌%◌, ◌^◌, ◌==◌, ◌||◌, if◌then◌else◌}
+use Rattle.xe_ctx.specs.Definition.{ℕ, Bool, nat_lt, Cpu, Insn, Tree, ◌>>=◌, cx, size_by_opcode, operand_of, reg_of, reads, read_for_write, write_operand, ends}
 use Rattle.xe_flags.specs.DoubleShifts.{double_word, double_flags}
 use Rattle.xe_flags.specs.Shifts.{shift_word, shift_flags}
 use Rattle.xe_flags.specs.declared.shifts.ShiftOp.{ShiftOp}
-use Rattle.xe_ctx.specs.Operand.{size_by_opcode, operand_of, reg_of, reads, read_for_write, write_operand, ends}
-use Rattle.xe_ctx.specs.Tree.{Tree, ◌>>=◌}
 use Rattle.xe_ctx.specs.declared.stop.Finish.{Finish}
 use Rattle.xe_arith.specs.Sized.{low, with_flags}
 
 -- Shifts and rotates (SDM volume 2, "RCL/RCR/ROL/ROR", "SAL/SAR/SHL/SHR", "SHLD" and "SHRD"). A count that changes nothing
 -- writes its operand all the same.
 
--- C0 C1: by an immediate byte. D0 D1: by one. D2 D3: by CL
+-- by an immediate byte: C0 and C1. By one: D0 and D1. The others, D2 and D3, are by CL
+abbrev pub is_by_immediate : ℕ → Bool
+is_by_immediate opcode = nat_lt opcode 0xD0
+
+abbrev pub is_by_one : ℕ → Bool
+is_by_one opcode = opcode == 0xD0 || opcode == 0xD1
+
 abbrev pub shift_count : Insn → Cpu → ℕ
-shift_count insn cpu = if nat_lt insn.opcode 0xD0 then insn.imm % 2 ^ 8 else (if nat_lt insn.opcode 0xD2 then 1 else reads insn cpu 1 1)
+shift_count insn cpu = if is_by_immediate insn.opcode then insn.imm % 2 ^ 8 else (if is_by_one insn.opcode then 1 else reads insn cpu 1 cx)
 
 abbrev pub shift_row : ShiftOp → Insn → Cpu → Tree Finish
 shift_row op insn cpu = do
@@ -24,9 +27,12 @@ shift_row op insn cpu = do
   after ← write_operand insn (with_flags cpu (shift_flags (8 * n) op (low n a) count cpu.rflags)) (operand_of insn cpu) n (shift_word (8 * n) op (low n a) count cpu.rflags)
   ends insn after
 
--- 0F A4, 0F AC: by an immediate byte. 0F A5, 0F AD: by CL
+-- a double shift by an immediate byte: 0F A4 and 0F AC. The others, 0F A5 and 0F AD, are by CL
+abbrev pub double_is_by_immediate : ℕ → Bool
+double_is_by_immediate opcode = opcode % 2 == 0
+
 abbrev pub double_count : Insn → Cpu → ℕ
-double_count insn cpu = if insn.opcode % 2 == 0 then insn.imm % 2 ^ 8 else reads insn cpu 1 1
+double_count insn cpu = if double_is_by_immediate insn.opcode then insn.imm % 2 ^ 8 else reads insn cpu 1 cx
 
 abbrev pub double_row : Bool → Insn → Cpu → Tree Finish
 double_row left insn cpu = do

@@ -1,10 +1,7 @@
-use Rattle.std.specs.Prelude.{ℕ, ◌*◌, nat_lt, if◌then◌else◌}
-use Rattle.xe_base.specs.declared.cpu.Cpu.{Cpu}
-use Rattle.xe_opmap.specs.declared.insn.Insn.{Insn}
+use Rattle.std.specs.Prelude.{◌*◌, if◌then◌else◌}
+use Rattle.xe_ctx.specs.Definition.{ℕ, Bool, nat_lt, Cpu, Insn, Tree, ◌>>=◌, size_by_opcode, operand_of, opcode_register, read_for_write, write_operand, ends}
 use Rattle.xe_flags.specs.OneOperand.{unary_word, unary_flags}
 use Rattle.xe_flags.specs.declared.one_operand.UnOp.{UnOp}
-use Rattle.xe_ctx.specs.Operand.{size_by_opcode, operand_of, opcode_register, read_for_write, write_operand, ends}
-use Rattle.xe_ctx.specs.Tree.{Tree, ◌>>=◌}
 use Rattle.xe_ctx.specs.declared.operand.Operand.{Operand}
 use Rattle.xe_ctx.specs.declared.operand.Operand.TheVariants.{Register}
 use Rattle.xe_ctx.specs.declared.stop.Finish.{Finish}
@@ -12,12 +9,16 @@ use Rattle.xe_arith.specs.Sized.{low, with_flags}
 
 -- Operations on one operand (SDM volume 2, "INC", "DEC", "NOT" and "NEG").
 
--- 40 to 4F: the register of the opcode, of operand size. Other opcodes: E, and the last bit says the size
+-- the opcode names the register: 40 to 4F
+abbrev pub is_by_opcode : ℕ → Bool
+is_by_opcode opcode = nat_lt opcode 0x50
+
+-- a register that the opcode names has the operand size; of E the last bit of the opcode says the size
 abbrev pub unary_size : Insn → ℕ
-unary_size insn = if nat_lt insn.opcode 0x50 then insn.opsize else size_by_opcode insn
+unary_size insn = if is_by_opcode insn.opcode then insn.opsize else size_by_opcode insn
 
 abbrev pub unary_target : Insn → Cpu → Operand
-unary_target insn cpu = if nat_lt insn.opcode 0x50 then Register (opcode_register insn) else operand_of insn cpu
+unary_target insn cpu = if is_by_opcode insn.opcode then Register (opcode_register insn) else operand_of insn cpu
 
 abbrev pub unary_row : UnOp → Insn → Cpu → Tree Finish
 unary_row op insn cpu = do

@@ -1,29 +1,35 @@
 //! Single bits.
 
-ghost use Rattle.std.specs.Prelude.{◌≡◌, ℕ, ◌≤◌, ◌^◌, ◌<◌, IsTrue, Option, unsigned_abs};
+ghost use Rattle.std.specs.Prelude.{unsigned_abs, ◌≡◌, ◌≤◌, ◌^◌, ◌<◌};
 ghost use Rattle.xe_opmap.specs.Encoding.{IsSize};
-ghost use Rattle.xe_ctx.specs.Operand.{IsOf, IsOperand, reg_of};
-ghost use Rattle.xe_ctx.specs.Is.{Is};
-ghost use Rattle.xe_ctx.specs.View.{view, cpu_of, SameHandles, IsOpen, accesses_left, bytes_left};
-ghost use Rattle.xe_arith.specs.Bit.{bit_offset, bytes_to_bit, moved, bit_operand, bit_place, bt_row, bit_row, found_written, scan_row};
+ghost use Rattle.xe_ctx.specs.Contract.{ℕ, Option, IsOf, IsOperand, IsReady, Finishes, cpu_of};
+ghost use Rattle.xe_ctx.specs.Operand.{reg_of};
+ghost use Rattle.xe_arith.specs.Bit.{is_by_immediate, bit_offset, bytes_to_bit, moved, bit_operand, bit_place, bt_row, bit_row, found_written, scan_row};
 
-use crate::sized::{bit_at, scan_at, with_flags};
+use crate::sized::{bit_at, scan_at};
 use xe_base::{Cpu, Word};
 use xe_ctx::operand::{
-    Operand, ends_with, operand_of, read_for_write, read_operand, read_register, reg_of,
-    write_operand, write_register,
+    Operand, done, operand_of, read_for_write, read_operand, read_register, reg_of, write_operand,
+    write_register,
 };
-use xe_ctx::{Bus, Ctx, Finish, Stop};
+use xe_ctx::{Bus, Ctx, End, Stop};
 use xe_flags::{BitOp, ScanOp};
 use xe_icpt::Intercepts;
 use xe_opmap::Insn;
+
+/// Whether an immediate names the bit: 0F BA.
+fn is_by_immediate(opcode: u16) -> bool
+    ensures { result ≡ is_by_immediate opcode }
+{
+    opcode == 0x0FBA
+}
 
 /// Where the bit is named: in G, or in an immediate byte.
 fn bit_offset(insn: &Insn, cpu: &Cpu) -> u64
     requires { IsOf cpu.now insn.now }
     ensures { result ≡ bit_offset insn.now cpu.now }
 {
-    if insn.opcode == 0x0FBA {
+    if is_by_immediate(insn.opcode) {
         insn.imm % (1 << 8)
     } else {
         read_register(insn, cpu, insn.opsize, reg_of(insn, cpu))
@@ -72,7 +78,7 @@ fn bit_operand(insn: &Insn, cpu: &Cpu) -> Operand
     ensures register { IsOperand result }
 {
     let operand = operand_of(insn, cpu);
-    if insn.opcode == 0x0FBA {
+    if is_by_immediate(insn.opcode) {
         operand
     } else {
         let bytes = bytes_to_bit(insn.opsize, bit_offset(insn, cpu));
@@ -89,21 +95,20 @@ fn bit_place(insn: &Insn, cpu: &Cpu) -> u32
 }
 
 /// BT (SDM volume 2, "BT—Bit Test").
-pub fn bt<B: Bus, I: Intercepts>(insn: &Insn, ctx: &mut Ctx<B, I>) -> Result<Finish, Stop>
-    requires insn { IsOf (cpu_of ctx.old) insn.now }
-    requires open { IsOpen B.sight ctx.old }
-    requires accesses { 10 ≤ accesses_left ctx.old }
-    requires bytes { 36 ≤ bytes_left ctx.old }
-    ensures same { SameHandles ctx.old ctx.new }
-    ensures open { IsOpen B.sight ctx.new }
-    ensures row { Is (bt_row insn.now (cpu_of ctx.old)) (view B.sight I.hits ctx.old) result (view B.sight I.hits ctx.new) }
+pub fn bt<B: Bus, I: Intercepts>(
+    insn: &Insn,
+    ctx: &mut Ctx<B, I>,
+    cpu: &mut Cpu,
+) -> Result<End, Stop>
+    requires { IsReady B.sight insn.now ctx.old cpu.old 10 36 }
+    ensures { Finishes B.sight I.hits (bt_row insn.now (cpu_of ctx.old)) ctx.old result cpu.new ctx.new }
 {
-    let cpu = *ctx.cpu();
     let size = insn.opsize;
-    let place = bit_place(insn, &cpu);
-    let a = read_operand(insn, ctx, bit_operand(insn, &cpu), size)?;
+    let place = bit_place(insn, cpu);
+    let a = read_operand(insn, ctx, bit_operand(insn, cpu), size)?;
     let (_, flags) = bit_at(BitOp::Test, size, a, place, cpu.rflags);
-    Ok(ends_with(insn, with_flags(&cpu, flags)))
+    cpu.rflags = flags;
+    Ok(done(insn, cpu))
 }
 
 /// BTS, BTR and BTC (SDM volume 2).
@@ -111,34 +116,30 @@ pub fn change_bit<B: Bus, I: Intercepts>(
     op: BitOp,
     insn: &Insn,
     ctx: &mut Ctx<B, I>,
-) -> Result<Finish, Stop>
-    requires insn { IsOf (cpu_of ctx.old) insn.now }
-    requires open { IsOpen B.sight ctx.old }
-    requires accesses { 10 ≤ accesses_left ctx.old }
-    requires bytes { 36 ≤ bytes_left ctx.old }
-    ensures same { SameHandles ctx.old ctx.new }
-    ensures open { IsOpen B.sight ctx.new }
-    ensures row { Is (bit_row op insn.now (cpu_of ctx.old)) (view B.sight I.hits ctx.old) result (view B.sight I.hits ctx.new) }
+    cpu: &mut Cpu,
+) -> Result<End, Stop>
+    requires { IsReady B.sight insn.now ctx.old cpu.old 10 36 }
+    ensures { Finishes B.sight I.hits (bit_row op insn.now (cpu_of ctx.old)) ctx.old result cpu.new ctx.new }
 {
-    let cpu = *ctx.cpu();
     let size = insn.opsize;
-    let place = bit_place(insn, &cpu);
-    let target = bit_operand(insn, &cpu);
+    let place = bit_place(insn, cpu);
+    let target = bit_operand(insn, cpu);
     let a = read_for_write(insn, ctx, target, size)?;
     let (value, flags) = bit_at(op, size, a, place, cpu.rflags);
-    let after = write_operand(insn, ctx, with_flags(&cpu, flags), target, size, value)?;
-    Ok(ends_with(insn, after))
+    cpu.rflags = flags;
+    write_operand(insn, ctx, cpu, target, size, value)?;
+    Ok(done(insn, cpu))
 }
 
 /// What is found goes to G; where nothing is found, G stays.
-fn found_written(insn: &Insn, cpu: &Cpu, register: u8, found: Option<u64>) -> Cpu
+fn write_found(insn: &Insn, cpu: &mut Cpu, register: u8, found: Option<u64>)
     requires size { IsSize insn.now.opsize }
     requires register { register < 16 }
     requires g { register ≡ reg_of insn.now }
-    ensures { result ≡ found_written insn.now cpu.now found }
+    ensures { cpu.new ≡ found_written insn.now cpu.old found }
 {
     match found {
-        None => *cpu,
+        None => {}
         Some(value) => write_register(insn, cpu, insn.opsize, register, value),
     }
 }
@@ -148,20 +149,16 @@ pub fn scan<B: Bus, I: Intercepts>(
     op: ScanOp,
     insn: &Insn,
     ctx: &mut Ctx<B, I>,
-) -> Result<Finish, Stop>
-    requires insn { IsOf (cpu_of ctx.old) insn.now }
-    requires open { IsOpen B.sight ctx.old }
-    requires accesses { 10 ≤ accesses_left ctx.old }
-    requires bytes { 36 ≤ bytes_left ctx.old }
-    ensures same { SameHandles ctx.old ctx.new }
-    ensures open { IsOpen B.sight ctx.new }
-    ensures row { Is (scan_row op insn.now (cpu_of ctx.old)) (view B.sight I.hits ctx.old) result (view B.sight I.hits ctx.new) }
+    cpu: &mut Cpu,
+) -> Result<End, Stop>
+    requires { IsReady B.sight insn.now ctx.old cpu.old 10 36 }
+    ensures { Finishes B.sight I.hits (scan_row op insn.now (cpu_of ctx.old)) ctx.old result cpu.new ctx.new }
 {
-    let cpu = *ctx.cpu();
     let size = insn.opsize;
-    let register = reg_of(insn, &cpu);
-    let a = read_operand(insn, ctx, operand_of(insn, &cpu), size)?;
+    let register = reg_of(insn, cpu);
+    let a = read_operand(insn, ctx, operand_of(insn, cpu), size)?;
     let (found, flags) = scan_at(op, size, a, cpu.rflags);
-    let after = found_written(insn, &with_flags(&cpu, flags), register, found);
-    Ok(ends_with(insn, after))
+    cpu.rflags = flags;
+    write_found(insn, cpu, register, found);
+    Ok(done(insn, cpu))
 }

@@ -1,16 +1,15 @@
 //! Instructions under a condition.
 
-ghost use Rattle.std.specs.Prelude.{◌≡◌, ℕ, ◌≤◌, if◌then◌else◌};
-ghost use Rattle.xe_ctx.specs.Operand.{IsOf, reads, reg_of};
-ghost use Rattle.xe_ctx.specs.Is.{Is};
-ghost use Rattle.xe_ctx.specs.View.{view, cpu_of, SameHandles, IsOpen, accesses_left, bytes_left};
+ghost use Rattle.std.specs.Prelude.{◌≡◌, if◌then◌else◌};
+ghost use Rattle.xe_ctx.specs.Contract.{ℕ, IsOf, IsReady, Finishes, cpu_of};
+ghost use Rattle.xe_ctx.specs.Operand.{reads, reg_of};
 ghost use Rattle.xe_arith.specs.Condition.{holds, cmov_row, set_row};
 
 use xe_base::Cpu;
 use xe_ctx::operand::{
-    ends_with, operand_of, read_operand, read_register, reg_of, write_operand, write_register,
+    done, operand_of, read_operand, read_register, reg_of, write_operand, write_register,
 };
-use xe_ctx::{Bus, Ctx, Finish, Stop};
+use xe_ctx::{Bus, Ctx, End, Stop};
 use xe_flags::condition;
 use xe_icpt::Intercepts;
 use xe_opmap::Insn;
@@ -35,40 +34,33 @@ fn chosen(insn: &Insn, cpu: &Cpu, value: u64) -> u64
 }
 
 /// CMOVcc (SDM volume 2, "CMOVcc—Conditional Move").
-pub fn cmov<B: Bus, I: Intercepts>(insn: &Insn, ctx: &mut Ctx<B, I>) -> Result<Finish, Stop>
-    requires insn { IsOf (cpu_of ctx.old) insn.now }
-    requires open { IsOpen B.sight ctx.old }
-    requires accesses { 10 ≤ accesses_left ctx.old }
-    requires bytes { 36 ≤ bytes_left ctx.old }
-    ensures same { SameHandles ctx.old ctx.new }
-    ensures open { IsOpen B.sight ctx.new }
-    ensures row { Is (cmov_row insn.now (cpu_of ctx.old)) (view B.sight I.hits ctx.old) result (view B.sight I.hits ctx.new) }
+pub fn cmov<B: Bus, I: Intercepts>(
+    insn: &Insn,
+    ctx: &mut Ctx<B, I>,
+    cpu: &mut Cpu,
+) -> Result<End, Stop>
+    requires { IsReady B.sight insn.now ctx.old cpu.old 10 36 }
+    ensures { Finishes B.sight I.hits (cmov_row insn.now (cpu_of ctx.old)) ctx.old result cpu.new ctx.new }
 {
-    let cpu = *ctx.cpu();
     let size = insn.opsize;
-    let value = read_operand(insn, ctx, operand_of(insn, &cpu), size)?;
-    let after = write_register(
-        insn,
-        &cpu,
-        size,
-        reg_of(insn, &cpu),
-        chosen(insn, &cpu, value),
-    );
-    Ok(ends_with(insn, after))
+    let register = reg_of(insn, cpu);
+    let value = read_operand(insn, ctx, operand_of(insn, cpu), size)?;
+    let chosen = chosen(insn, cpu, value);
+    write_register(insn, cpu, size, register, chosen);
+    Ok(done(insn, cpu))
 }
 
 /// SETcc (SDM volume 2, "SETcc—Set Byte on Condition").
-pub fn set<B: Bus, I: Intercepts>(insn: &Insn, ctx: &mut Ctx<B, I>) -> Result<Finish, Stop>
-    requires insn { IsOf (cpu_of ctx.old) insn.now }
-    requires open { IsOpen B.sight ctx.old }
-    requires accesses { 10 ≤ accesses_left ctx.old }
-    requires bytes { 36 ≤ bytes_left ctx.old }
-    ensures same { SameHandles ctx.old ctx.new }
-    ensures open { IsOpen B.sight ctx.new }
-    ensures row { Is (set_row insn.now (cpu_of ctx.old)) (view B.sight I.hits ctx.old) result (view B.sight I.hits ctx.new) }
+pub fn set<B: Bus, I: Intercepts>(
+    insn: &Insn,
+    ctx: &mut Ctx<B, I>,
+    cpu: &mut Cpu,
+) -> Result<End, Stop>
+    requires { IsReady B.sight insn.now ctx.old cpu.old 10 36 }
+    ensures { Finishes B.sight I.hits (set_row insn.now (cpu_of ctx.old)) ctx.old result cpu.new ctx.new }
 {
-    let cpu = *ctx.cpu();
-    let value = holds(insn, &cpu) as u64;
-    let after = write_operand(insn, ctx, cpu, operand_of(insn, &cpu), 1, value)?;
-    Ok(ends_with(insn, after))
+    let target = operand_of(insn, cpu);
+    let value = holds(insn, cpu) as u64;
+    write_operand(insn, ctx, cpu, target, 1, value)?;
+    Ok(done(insn, cpu))
 }

@@ -1,15 +1,13 @@
 //! Decimal corrections of AX.
 
-ghost use Rattle.std.specs.Prelude.{◌≡◌, ℕ};
-ghost use Rattle.xe_ctx.specs.Operand.{IsOf};
-ghost use Rattle.xe_ctx.specs.Is.{Is};
-ghost use Rattle.xe_ctx.specs.View.{view, cpu_of, SameHandles, IsOpen};
+ghost use Rattle.std.specs.Prelude.{◌≡◌};
+ghost use Rattle.xe_ctx.specs.Contract.{ℕ, IsReady, Finishes, cpu_of};
 ghost use Rattle.xe_arith.specs.Decimal.{divides, decimal_row};
 
-use crate::multiply::divide_error;
-use crate::sized::with_flags;
-use xe_ctx::operand::{ends_with, read_register, write_register};
-use xe_ctx::{Bus, Ctx, Finish, Stop};
+use xe_base::access::DIVIDE_ERROR;
+use xe_base::{Cpu, Fault};
+use xe_ctx::operand::{AX, done, read_register, write_register};
+use xe_ctx::{Bus, Ctx, End, Stop};
 use xe_flags::{BcdOp, bcd};
 use xe_icpt::Intercepts;
 use xe_opmap::Insn;
@@ -20,7 +18,7 @@ fn divides(op: BcdOp) -> bool
 {
     match op {
         BcdOp::Aam => true,
-        _ => false,
+        BcdOp::Daa | BcdOp::Das | BcdOp::Aaa | BcdOp::Aas | BcdOp::Aad => false,
     }
 }
 
@@ -29,23 +27,22 @@ pub fn decimal<B: Bus, I: Intercepts>(
     op: BcdOp,
     insn: &Insn,
     ctx: &mut Ctx<B, I>,
-) -> Result<Finish, Stop>
-    requires open { IsOpen B.sight ctx.old }
-    ensures same { SameHandles ctx.old ctx.new }
-    ensures open { IsOpen B.sight ctx.new }
-    ensures row { Is (decimal_row op insn.now (cpu_of ctx.old)) (view B.sight I.hits ctx.old) result (view B.sight I.hits ctx.new) }
+    cpu: &mut Cpu,
+) -> Result<End, Stop>
+    requires { IsReady B.sight insn.now ctx.old cpu.old 0 0 }
+    ensures { Finishes B.sight I.hits (decimal_row op insn.now (cpu_of ctx.old)) ctx.old result cpu.new ctx.new }
 {
-    let cpu = *ctx.cpu();
-    let ax = (read_register(insn, &cpu, 2, 0) % (1 << 16)) as u16;
+    let ax = (read_register(insn, cpu, 2, AX) % (1 << 16)) as u16;
     let imm = (insn.imm % (1 << 8)) as u8;
     if divides(op) && imm == 0 {
-        return Err(divide_error());
+        return Err(Stop::Fault(Fault::plain(DIVIDE_ERROR)));
     }
     match bcd(op, ax, imm, cpu.rflags) {
-        Err(_) => Err(divide_error()),
+        Err(_) => Err(Stop::Fault(Fault::plain(DIVIDE_ERROR))),
         Ok((corrected, flags)) => {
-            let after = write_register(insn, &with_flags(&cpu, flags), 2, 0, corrected as u64);
-            Ok(ends_with(insn, after))
+            cpu.rflags = flags;
+            write_register(insn, cpu, 2, AX, corrected as u64);
+            Ok(done(insn, cpu))
         }
     }
 }

@@ -1,43 +1,42 @@
 //! Exchanges that compute or compare.
 
-ghost use Rattle.std.specs.Prelude.{◌≡◌, ℕ, ◌≤◌, ◌<◌, ◌+◌, ◌*◌, ◌^◌, ◌%◌, ◌/◌, ◌==◌, ◌||◌, IsTrue};
-ghost use Rattle.xe_base.specs.Registers.{is_size};
-ghost use Rattle.xe_ctx.specs.Operand.{IsOf, IsOperand, reg_of};
-ghost use Rattle.xe_ctx.specs.Is.{Is};
-ghost use Rattle.xe_ctx.specs.View.{view, cpu_of, SameHandles, IsOpen, accesses_left, bytes_left};
-ghost use Rattle.xe_arith.specs.Exchange.{xadd_row, put_back, compared, cmpxchg_row, half_size, joined, expected, replacement, pair_stored, with_zero, pair_loaded, pair_row, long_base, is_misaligned, general_protection, undefined, pair_at, cmpxchg8b_row};
+ghost use Rattle.xe_base.specs.Exceptions.{plain_exception, exception, invalid_opcode, general_protection};
+ghost use Rattle.std.specs.Prelude.{◌≡◌, ◌<◌, ◌*◌, ◌^◌, ◌%◌, ◌/◌, ◌==◌, ◌||◌};
+ghost use Rattle.xe_ctx.specs.Contract.{ℕ, IsTrue, is_size, HasLeft, IsReady, Finishes, DraftsWithin, IsOperand, cpu_of};
+ghost use Rattle.xe_ctx.specs.Operand.{reg_of};
+ghost use Rattle.xe_arith.specs.Exchange.{xadd_row, put_back, compared, cmpxchg_row, half_size, joined, expected, replacement, pair_stored, with_zero, pair_loaded, pair_row, long_base, is_misaligned, pair_at, cmpxchg8b_row};
 
-use crate::sized::{alu_at, with_flags};
+use crate::sized::alu_at;
+use xe_base::access::{GENERAL_PROTECTION, INVALID_OPCODE};
 use xe_base::{Cpu, Fault, SegName};
 use xe_ctx::operand::{
-    Operand, ends_with, operand_of, read_for_write, read_register, reg_of, size_by_opcode,
-    write_operand, write_register,
+    AX, BX, CX, DX, Operand, done, operand_of, read_for_write, read_register, reg_of,
+    size_by_opcode, write_operand, write_register,
 };
-use xe_ctx::{Bus, Ctx, Finish, Stop};
+use xe_ctx::{Bus, Ctx, End, Stop};
 use xe_flags::{AluOp, Status, status_of, with_status};
 use xe_icpt::Intercepts;
 use xe_opmap::Insn;
 
 /// XADD (SDM volume 2, "XADD—Exchange and Add").
-pub fn xadd<B: Bus, I: Intercepts>(insn: &Insn, ctx: &mut Ctx<B, I>) -> Result<Finish, Stop>
-    requires insn { IsOf (cpu_of ctx.old) insn.now }
-    requires open { IsOpen B.sight ctx.old }
-    requires accesses { 10 ≤ accesses_left ctx.old }
-    requires bytes { 36 ≤ bytes_left ctx.old }
-    ensures same { SameHandles ctx.old ctx.new }
-    ensures open { IsOpen B.sight ctx.new }
-    ensures row { Is (xadd_row insn.now (cpu_of ctx.old)) (view B.sight I.hits ctx.old) result (view B.sight I.hits ctx.new) }
+pub fn xadd<B: Bus, I: Intercepts>(
+    insn: &Insn,
+    ctx: &mut Ctx<B, I>,
+    cpu: &mut Cpu,
+) -> Result<End, Stop>
+    requires { IsReady B.sight insn.now ctx.old cpu.old 10 36 }
+    ensures { Finishes B.sight I.hits (xadd_row insn.now (cpu_of ctx.old)) ctx.old result cpu.new ctx.new }
 {
-    let cpu = *ctx.cpu();
-    let size = size_by_opcode(insn, &cpu);
-    let target = operand_of(insn, &cpu);
-    let register = reg_of(insn, &cpu);
-    let b = read_register(insn, &cpu, size, register);
+    let size = size_by_opcode(insn, cpu);
+    let target = operand_of(insn, cpu);
+    let register = reg_of(insn, cpu);
+    let b = read_register(insn, cpu, size, register);
     let a = read_for_write(insn, ctx, target, size)?;
     let (sum, flags) = alu_at(AluOp::Add, size, a, b, cpu.rflags);
-    let taken = write_register(insn, &with_flags(&cpu, flags), size, register, a);
-    let after = write_operand(insn, ctx, taken, target, size, sum)?;
-    Ok(ends_with(insn, after))
+    cpu.rflags = flags;
+    write_register(insn, cpu, size, register, a);
+    write_operand(insn, ctx, cpu, target, size, sum)?;
+    Ok(done(insn, cpu))
 }
 
 /// A number goes back to where it was read: memory is written, a register stays.
@@ -45,22 +44,18 @@ pub fn xadd<B: Bus, I: Intercepts>(insn: &Insn, ctx: &mut Ctx<B, I>) -> Result<F
 fn put_back<B: Bus, I: Intercepts>(
     insn: &Insn,
     ctx: &mut Ctx<B, I>,
-    cpu: Cpu,
+    cpu: &mut Cpu,
     operand: Operand,
     size: u8,
     value: u64,
-) -> Result<Cpu, Stop>
+) -> Result<(), Stop>
+    requires ready { HasLeft B.sight ctx.old 4 18 }
     requires size { IsTrue (is_size size) }
     requires register { IsOperand operand }
-    requires open { IsOpen B.sight ctx.old }
-    requires accesses { 4 ≤ accesses_left ctx.old }
-    requires bytes { 18 ≤ bytes_left ctx.old }
-    ensures same { SameHandles ctx.old ctx.new }
-    ensures open { IsOpen B.sight ctx.new }
-    ensures part { Is (put_back insn.now cpu operand size value) (view B.sight I.hits ctx.old) result (view B.sight I.hits ctx.new) }
+    ensures { DraftsWithin B.sight I.hits (put_back insn.now cpu.old operand size value) ctx.old result cpu.new ctx.new 4 18 }
 {
     match operand {
-        Operand::Register(_) => Ok(cpu),
+        Operand::Register(_) => Ok(()),
         Operand::Memory(..) => write_operand(insn, ctx, cpu, operand, size, value),
     }
 }
@@ -70,59 +65,46 @@ fn put_back<B: Bus, I: Intercepts>(
 fn compared<B: Bus, I: Intercepts>(
     insn: &Insn,
     ctx: &mut Ctx<B, I>,
-    cpu: Cpu,
+    cpu: &mut Cpu,
     operand: Operand,
     size: u8,
     register: u8,
     value: u64,
-) -> Result<Cpu, Stop>
+) -> Result<(), Stop>
+    requires ready { HasLeft B.sight ctx.old 4 18 }
     requires size { IsTrue (is_size size) }
     requires operand { IsOperand operand }
     requires g { register ≡ reg_of insn.now }
     requires index { register < 16 }
-    requires open { IsOpen B.sight ctx.old }
-    requires accesses { 4 ≤ accesses_left ctx.old }
-    requires bytes { 18 ≤ bytes_left ctx.old }
-    ensures same { SameHandles ctx.old ctx.new }
-    ensures open { IsOpen B.sight ctx.new }
-    ensures part { Is (compared insn.now cpu operand size value) (view B.sight I.hits ctx.old) result (view B.sight I.hits ctx.new) }
+    ensures { DraftsWithin B.sight I.hits (compared insn.now cpu.old operand size value) ctx.old result cpu.new ctx.new 4 18 }
 {
-    if read_register(insn, &cpu, size, 0) == value {
-        let given = read_register(insn, &cpu, size, register);
+    if read_register(insn, cpu, size, AX) == value {
+        let given = read_register(insn, cpu, size, register);
         write_operand(insn, ctx, cpu, operand, size, given)
     } else {
-        let taken = write_register(insn, &cpu, size, 0, value);
-        put_back(insn, ctx, taken, operand, size, value)
+        write_register(insn, cpu, size, AX, value);
+        put_back(insn, ctx, cpu, operand, size, value)
     }
 }
 
 /// CMPXCHG (SDM volume 2, "CMPXCHG—Compare and Exchange").
-pub fn cmpxchg<B: Bus, I: Intercepts>(insn: &Insn, ctx: &mut Ctx<B, I>) -> Result<Finish, Stop>
-    requires insn { IsOf (cpu_of ctx.old) insn.now }
-    requires open { IsOpen B.sight ctx.old }
-    requires accesses { 10 ≤ accesses_left ctx.old }
-    requires bytes { 36 ≤ bytes_left ctx.old }
-    ensures same { SameHandles ctx.old ctx.new }
-    ensures open { IsOpen B.sight ctx.new }
-    ensures row { Is (cmpxchg_row insn.now (cpu_of ctx.old)) (view B.sight I.hits ctx.old) result (view B.sight I.hits ctx.new) }
+pub fn cmpxchg<B: Bus, I: Intercepts>(
+    insn: &Insn,
+    ctx: &mut Ctx<B, I>,
+    cpu: &mut Cpu,
+) -> Result<End, Stop>
+    requires { IsReady B.sight insn.now ctx.old cpu.old 10 36 }
+    ensures { Finishes B.sight I.hits (cmpxchg_row insn.now (cpu_of ctx.old)) ctx.old result cpu.new ctx.new }
 {
-    let cpu = *ctx.cpu();
-    let size = size_by_opcode(insn, &cpu);
-    let target = operand_of(insn, &cpu);
-    let register = reg_of(insn, &cpu);
-    let a = read_register(insn, &cpu, size, 0);
+    let size = size_by_opcode(insn, cpu);
+    let target = operand_of(insn, cpu);
+    let register = reg_of(insn, cpu);
+    let a = read_register(insn, cpu, size, AX);
     let b = read_for_write(insn, ctx, target, size)?;
     let (_, flags) = alu_at(AluOp::Cmp, size, a, b, cpu.rflags);
-    let after = compared(
-        insn,
-        ctx,
-        with_flags(&cpu, flags),
-        target,
-        size,
-        register,
-        b,
-    )?;
-    Ok(ends_with(insn, after))
+    cpu.rflags = flags;
+    compared(insn, ctx, cpu, target, size, register, b)?;
+    Ok(done(insn, cpu))
 }
 
 /// The bytes of each half of CMPXCHG8B and CMPXCHG16B.
@@ -153,8 +135,8 @@ fn expected(insn: &Insn, cpu: &Cpu) -> u128
     ensures value { result ≡ expected insn.now cpu.now }
 {
     let half = half_size(insn);
-    let high = read_register(insn, cpu, half, 2);
-    joined(half, high, read_register(insn, cpu, half, 0))
+    let high = read_register(insn, cpu, half, DX);
+    joined(half, high, read_register(insn, cpu, half, AX))
 }
 
 /// rCX:rBX.
@@ -163,8 +145,8 @@ fn replacement(insn: &Insn, cpu: &Cpu) -> u128
     ensures fits { result < 2 ^ (8 * (2 * half_size insn.now)) }
 {
     let half = half_size(insn);
-    let high = read_register(insn, cpu, half, 1);
-    joined(half, high, read_register(insn, cpu, half, 3))
+    let high = read_register(insn, cpu, half, CX);
+    joined(half, high, read_register(insn, cpu, half, BX))
 }
 
 /// What is stored, where memory held this number.
@@ -180,15 +162,15 @@ fn pair_stored(insn: &Insn, cpu: &Cpu, old: u128) -> u128
     }
 }
 
-/// The registers with this ZF.
-fn with_zero(cpu: &Cpu, zero: bool) -> Cpu
-    ensures { result ≡ with_zero cpu.now zero }
+/// The flags with this ZF.
+fn with_zero(flags: u64, zero: bool) -> u64
+    ensures { result ≡ with_zero flags zero }
 {
     let status = Status {
         zero,
-        ..status_of(cpu.rflags)
+        ..status_of(flags)
     };
-    with_flags(cpu, with_status(cpu.rflags, status))
+    with_status(flags, status)
 }
 
 /// The lower and the higher half of a number.
@@ -204,19 +186,20 @@ fn halves(size: u8, value: u128) -> (u64, u64)
     }
 }
 
-/// The registers afterwards: ZF says whether the numbers were equal; where they weren't, rDX:rAX gets
+/// Writes the registers: ZF says whether the numbers were equal; where they weren't, rDX:rAX gets
 /// what memory holds.
-fn pair_loaded(insn: &Insn, cpu: &Cpu, old: u128) -> Cpu
+fn load_pair(insn: &Insn, cpu: &mut Cpu, old: u128)
     requires { old < 2 ^ (8 * (2 * half_size insn.now)) }
-    ensures { result ≡ pair_loaded insn.now cpu.now old }
+    ensures { cpu.new ≡ pair_loaded insn.now cpu.old old }
 {
     if old == expected(insn, cpu) {
-        with_zero(cpu, true)
+        cpu.rflags = with_zero(cpu.rflags, true);
     } else {
         let half = half_size(insn);
         let (word, high) = halves(half, old);
-        let low_written = write_register(insn, &with_zero(cpu, false), half, 0, word);
-        write_register(insn, &low_written, half, 2, high)
+        cpu.rflags = with_zero(cpu.rflags, false);
+        write_register(insn, cpu, half, AX, word);
+        write_register(insn, cpu, half, DX, high);
     }
 }
 
@@ -224,21 +207,18 @@ fn pair_loaded(insn: &Insn, cpu: &Cpu, old: u128) -> Cpu
 fn exchange_pair<B: Bus, I: Intercepts>(
     insn: &Insn,
     ctx: &mut Ctx<B, I>,
+    cpu: &mut Cpu,
     segment: SegName,
     offset: u64,
-) -> Result<Finish, Stop>
-    requires open { IsOpen B.sight ctx.old }
-    requires accesses { 10 ≤ accesses_left ctx.old }
-    requires bytes { 36 ≤ bytes_left ctx.old }
-    ensures same { SameHandles ctx.old ctx.new }
-    ensures open { IsOpen B.sight ctx.new }
-    ensures row { Is (pair_row insn.now (cpu_of ctx.old) segment offset) (view B.sight I.hits ctx.old) result (view B.sight I.hits ctx.new) }
+) -> Result<End, Stop>
+    requires { IsReady B.sight insn.now ctx.old cpu.old 10 36 }
+    ensures { Finishes B.sight I.hits (pair_row insn.now (cpu_of ctx.old) segment offset) ctx.old result cpu.new ctx.new }
 {
-    let cpu = *ctx.cpu();
     let size = 2 * half_size(insn) as u32;
     let old = ctx.load_for_write(segment, offset, size)?;
-    ctx.store(segment, offset, size, pair_stored(insn, &cpu, old))?;
-    Ok(ends_with(insn, pair_loaded(insn, &cpu, old)))
+    ctx.store(segment, offset, size, pair_stored(insn, cpu, old))?;
+    load_pair(insn, cpu, old);
+    Ok(done(insn, cpu))
 }
 
 /// The base of a segment in 64-bit code, where alone there are 16 bytes: FS and GS have one.
@@ -248,7 +228,7 @@ fn long_base(cpu: &Cpu, segment: SegName) -> u64
     match segment {
         SegName::Fs => cpu.fs.base,
         SegName::Gs => cpu.gs.base,
-        _ => 0,
+        SegName::Es | SegName::Cs | SegName::Ss | SegName::Ds => 0,
     }
 }
 
@@ -260,31 +240,22 @@ fn is_misaligned(insn: &Insn, cpu: &Cpu, segment: SegName, offset: u64) -> bool
 }
 
 /// CMPXCHG8B and CMPXCHG16B (SDM volume 2, "CMPXCHG8B/CMPXCHG16B—Compare and Exchange Bytes").
-pub fn cmpxchg8b<B: Bus, I: Intercepts>(insn: &Insn, ctx: &mut Ctx<B, I>) -> Result<Finish, Stop>
-    requires insn { IsOf (cpu_of ctx.old) insn.now }
-    requires open { IsOpen B.sight ctx.old }
-    requires accesses { 10 ≤ accesses_left ctx.old }
-    requires bytes { 36 ≤ bytes_left ctx.old }
-    ensures same { SameHandles ctx.old ctx.new }
-    ensures open { IsOpen B.sight ctx.new }
-    ensures row { Is (cmpxchg8b_row insn.now (cpu_of ctx.old)) (view B.sight I.hits ctx.old) result (view B.sight I.hits ctx.new) }
+pub fn cmpxchg8b<B: Bus, I: Intercepts>(
+    insn: &Insn,
+    ctx: &mut Ctx<B, I>,
+    cpu: &mut Cpu,
+) -> Result<End, Stop>
+    requires { IsReady B.sight insn.now ctx.old cpu.old 10 36 }
+    ensures { Finishes B.sight I.hits (cmpxchg8b_row insn.now (cpu_of ctx.old)) ctx.old result cpu.new ctx.new }
 {
-    let cpu = *ctx.cpu();
-    match operand_of(insn, &cpu) {
-        Operand::Register(_) => Err(Stop::Fault(Fault {
-            vector: 6,
-            code: None,
-            cr2: None,
-        })),
+    match operand_of(insn, cpu) {
+        Operand::Register(_) => Err(Stop::Fault(Fault::plain(INVALID_OPCODE))),
         Operand::Memory(segment, offset) => {
-            if is_misaligned(insn, &cpu, segment, offset) {
-                return Err(Stop::Fault(Fault {
-                    vector: 13,
-                    code: Some(0),
-                    cr2: None,
-                }));
+            if is_misaligned(insn, cpu, segment, offset) {
+                let fault = Fault::with_code(cpu.mode(), GENERAL_PROTECTION, 0);
+                return Err(Stop::Fault(fault));
             }
-            exchange_pair(insn, ctx, segment, offset)
+            exchange_pair(insn, ctx, cpu, segment, offset)
         }
     }
 }

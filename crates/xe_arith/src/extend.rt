@@ -1,16 +1,15 @@
 //! Numbers made wider.
 
-ghost use Rattle.std.specs.Prelude.{◌≡◌, ℕ, ◌≤◌, ◌/◌, ◌%◌, ◌^◌, IsTrue};
-ghost use Rattle.xe_base.specs.Registers.{is_size};
+ghost use Rattle.std.specs.Prelude.{◌≡◌, ◌/◌, ◌%◌, ◌^◌};
+ghost use Rattle.xe_ctx.specs.Contract.{ℕ, IsTrue, is_size, IsOf, IsReady, Finishes, cpu_of};
 ghost use Rattle.xe_base.specs.Words.{IsWidth, signed, wrapped};
-ghost use Rattle.xe_ctx.specs.Operand.{IsOf};
-ghost use Rattle.xe_ctx.specs.Is.{Is};
-ghost use Rattle.xe_ctx.specs.View.{view, cpu_of, SameHandles, IsOpen, accesses_left, bytes_left};
-ghost use Rattle.xe_arith.specs.Extend.{sign_extended, cbw_row, sign_fill, cwd_row, narrow_size, movzx_row, movsx_row};
+ghost use Rattle.xe_arith.specs.Extend.{sign_extended, cbw_row, sign_fill, cwd_row, is_movsxd, is_from_byte, narrow_size, movzx_row, movsx_row};
 
 use xe_base::{Cpu, Word};
-use xe_ctx::operand::{ends_with, operand_of, read_operand, read_register, reg_of, write_register};
-use xe_ctx::{Bus, Ctx, Finish, Stop};
+use xe_ctx::operand::{
+    AX, DX, done, operand_of, read_operand, read_register, reg_of, write_register,
+};
+use xe_ctx::{Bus, Ctx, End, Stop};
 use xe_icpt::Intercepts;
 use xe_opmap::Insn;
 
@@ -49,18 +48,18 @@ fn half_size(insn: &Insn, cpu: &Cpu) -> u8
 }
 
 /// CBW, CWDE and CDQE (SDM volume 2, "CBW/CWDE/CDQE").
-pub fn cbw<B: Bus, I: Intercepts>(insn: &Insn, ctx: &mut Ctx<B, I>) -> Result<Finish, Stop>
-    requires insn { IsOf (cpu_of ctx.old) insn.now }
-    requires open { IsOpen B.sight ctx.old }
-    ensures same { SameHandles ctx.old ctx.new }
-    ensures open { IsOpen B.sight ctx.new }
-    ensures row { Is (cbw_row insn.now (cpu_of ctx.old)) (view B.sight I.hits ctx.old) result (view B.sight I.hits ctx.new) }
+pub fn cbw<B: Bus, I: Intercepts>(
+    insn: &Insn,
+    ctx: &mut Ctx<B, I>,
+    cpu: &mut Cpu,
+) -> Result<End, Stop>
+    requires { IsReady B.sight insn.now ctx.old cpu.old 0 0 }
+    ensures { Finishes B.sight I.hits (cbw_row insn.now (cpu_of ctx.old)) ctx.old result cpu.new ctx.new }
 {
-    let cpu = *ctx.cpu();
-    let half = half_size(insn, &cpu);
-    let value = sign_extended(half, read_register(insn, &cpu, half, 0));
-    let after = write_register(insn, &cpu, insn.opsize, 0, value);
-    Ok(ends_with(insn, after))
+    let half = half_size(insn, cpu);
+    let value = sign_extended(half, read_register(insn, cpu, half, AX));
+    write_register(insn, cpu, insn.opsize, AX, value);
+    Ok(done(insn, cpu))
 }
 
 /// All ones where the number in the low bytes is negative, else 0.
@@ -78,18 +77,32 @@ fn sign_fill(size: u8, value: u64) -> u64
 }
 
 /// CWD, CDQ and CQO (SDM volume 2, "CWD/CDQ/CQO").
-pub fn cwd<B: Bus, I: Intercepts>(insn: &Insn, ctx: &mut Ctx<B, I>) -> Result<Finish, Stop>
-    requires insn { IsOf (cpu_of ctx.old) insn.now }
-    requires open { IsOpen B.sight ctx.old }
-    ensures same { SameHandles ctx.old ctx.new }
-    ensures open { IsOpen B.sight ctx.new }
-    ensures row { Is (cwd_row insn.now (cpu_of ctx.old)) (view B.sight I.hits ctx.old) result (view B.sight I.hits ctx.new) }
+pub fn cwd<B: Bus, I: Intercepts>(
+    insn: &Insn,
+    ctx: &mut Ctx<B, I>,
+    cpu: &mut Cpu,
+) -> Result<End, Stop>
+    requires { IsReady B.sight insn.now ctx.old cpu.old 0 0 }
+    ensures { Finishes B.sight I.hits (cwd_row insn.now (cpu_of ctx.old)) ctx.old result cpu.new ctx.new }
 {
-    let cpu = *ctx.cpu();
     let size = insn.opsize;
-    let value = sign_fill(size, read_register(insn, &cpu, size, 0));
-    let after = write_register(insn, &cpu, size, 2, value);
-    Ok(ends_with(insn, after))
+    let value = sign_fill(size, read_register(insn, cpu, size, AX));
+    write_register(insn, cpu, size, DX, value);
+    Ok(done(insn, cpu))
+}
+
+/// Whether this is MOVSXD: 63.
+fn is_movsxd(opcode: u16) -> bool
+    ensures { result ≡ is_movsxd opcode }
+{
+    opcode == 0x63
+}
+
+/// Whether a byte is made wider, and not a word: 0F B6 and 0F BE.
+fn is_from_byte(opcode: u16) -> bool
+    ensures { result ≡ is_from_byte opcode }
+{
+    opcode % 2 == 0
 }
 
 /// The size of the operand that is made wider.
@@ -97,9 +110,9 @@ fn narrow_size(insn: &Insn) -> u8
     ensures value { result ≡ narrow_size insn.now }
     ensures size { IsTrue (is_size result) }
 {
-    if insn.opcode == 0x63 {
+    if is_movsxd(insn.opcode) {
         if insn.opsize == 2 { 2 } else { 4 }
-    } else if insn.opcode % 2 == 0 {
+    } else if is_from_byte(insn.opcode) {
         1
     } else {
         2
@@ -107,35 +120,33 @@ fn narrow_size(insn: &Insn) -> u8
 }
 
 /// MOVZX (SDM volume 2, "MOVZX—Move With Zero-Extend").
-pub fn movzx<B: Bus, I: Intercepts>(insn: &Insn, ctx: &mut Ctx<B, I>) -> Result<Finish, Stop>
-    requires insn { IsOf (cpu_of ctx.old) insn.now }
-    requires open { IsOpen B.sight ctx.old }
-    requires accesses { 10 ≤ accesses_left ctx.old }
-    requires bytes { 36 ≤ bytes_left ctx.old }
-    ensures same { SameHandles ctx.old ctx.new }
-    ensures open { IsOpen B.sight ctx.new }
-    ensures row { Is (movzx_row insn.now (cpu_of ctx.old)) (view B.sight I.hits ctx.old) result (view B.sight I.hits ctx.new) }
+pub fn movzx<B: Bus, I: Intercepts>(
+    insn: &Insn,
+    ctx: &mut Ctx<B, I>,
+    cpu: &mut Cpu,
+) -> Result<End, Stop>
+    requires { IsReady B.sight insn.now ctx.old cpu.old 10 36 }
+    ensures { Finishes B.sight I.hits (movzx_row insn.now (cpu_of ctx.old)) ctx.old result cpu.new ctx.new }
 {
-    let cpu = *ctx.cpu();
-    let value = read_operand(insn, ctx, operand_of(insn, &cpu), narrow_size(insn))?;
-    let after = write_register(insn, &cpu, insn.opsize, reg_of(insn, &cpu), value);
-    Ok(ends_with(insn, after))
+    let register = reg_of(insn, cpu);
+    let value = read_operand(insn, ctx, operand_of(insn, cpu), narrow_size(insn))?;
+    write_register(insn, cpu, insn.opsize, register, value);
+    Ok(done(insn, cpu))
 }
 
 /// MOVSX and MOVSXD (SDM volume 2, "MOVSX/MOVSXD—Move With Sign-Extension").
-pub fn movsx<B: Bus, I: Intercepts>(insn: &Insn, ctx: &mut Ctx<B, I>) -> Result<Finish, Stop>
-    requires insn { IsOf (cpu_of ctx.old) insn.now }
-    requires open { IsOpen B.sight ctx.old }
-    requires accesses { 10 ≤ accesses_left ctx.old }
-    requires bytes { 36 ≤ bytes_left ctx.old }
-    ensures same { SameHandles ctx.old ctx.new }
-    ensures open { IsOpen B.sight ctx.new }
-    ensures row { Is (movsx_row insn.now (cpu_of ctx.old)) (view B.sight I.hits ctx.old) result (view B.sight I.hits ctx.new) }
+pub fn movsx<B: Bus, I: Intercepts>(
+    insn: &Insn,
+    ctx: &mut Ctx<B, I>,
+    cpu: &mut Cpu,
+) -> Result<End, Stop>
+    requires { IsReady B.sight insn.now ctx.old cpu.old 10 36 }
+    ensures { Finishes B.sight I.hits (movsx_row insn.now (cpu_of ctx.old)) ctx.old result cpu.new ctx.new }
 {
-    let cpu = *ctx.cpu();
     let size = narrow_size(insn);
-    let value = read_operand(insn, ctx, operand_of(insn, &cpu), size)?;
+    let register = reg_of(insn, cpu);
+    let value = read_operand(insn, ctx, operand_of(insn, cpu), size)?;
     let wide = sign_extended(size, value);
-    let after = write_register(insn, &cpu, insn.opsize, reg_of(insn, &cpu), wide);
-    Ok(ends_with(insn, after))
+    write_register(insn, cpu, insn.opsize, register, wide);
+    Ok(done(insn, cpu))
 }

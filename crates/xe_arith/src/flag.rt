@@ -1,69 +1,75 @@
 //! Flags by themselves.
 
-ghost use Rattle.std.specs.Prelude.{◌≡◌, ℕ};
-ghost use Rattle.xe_ctx.specs.Is.{Is};
-ghost use Rattle.xe_ctx.specs.View.{view, cpu_of, SameHandles, IsOpen};
-ghost use Rattle.xe_arith.specs.Flag.{cmc_row, clc_row, stc_row, with_direction, direction_row, high_byte_of_ax, sahf_row, lahf_row};
+ghost use Rattle.std.specs.Prelude.{◌≡◌};
+ghost use Rattle.xe_ctx.specs.Contract.{ℕ, IsReady, Finishes, cpu_of};
+ghost use Rattle.xe_arith.specs.Flag.{with_carry, cmc_row, clc_row, stc_row, with_direction, direction_row, high_byte_of_ax, sahf_row, lahf_row};
 
-use crate::sized::with_flags;
 use xe_base::Cpu;
-use xe_ctx::operand::ends_with;
-use xe_ctx::{Bus, Ctx, Finish, Stop};
-use xe_flags::{Status, flag, status_of, with_status};
+use xe_ctx::operand::{AH, done};
+use xe_ctx::{Bus, Ctx, End, Stop};
+use xe_flags::{Status, status_of, with_status};
 use xe_icpt::Intercepts;
 use xe_opmap::Insn;
 
-/// CMC (SDM volume 2, "CMC—Complement Carry Flag").
-pub fn cmc<B: Bus, I: Intercepts>(insn: &Insn, ctx: &mut Ctx<B, I>) -> Result<Finish, Stop>
-    requires open { IsOpen B.sight ctx.old }
-    ensures same { SameHandles ctx.old ctx.new }
-    ensures open { IsOpen B.sight ctx.new }
-    ensures row { Is (cmc_row insn.now (cpu_of ctx.old)) (view B.sight I.hits ctx.old) result (view B.sight I.hits ctx.new) }
+/// DF, the direction of string instructions.
+const DIRECTION: u64 = 1 << 10;
+
+/// The flags with this CF.
+fn with_carry(flags: u64, carry: bool) -> u64
+    ensures { result ≡ with_carry flags carry }
 {
-    let cpu = *ctx.cpu();
-    let carry = !flag(cpu.rflags, 0);
     let status = Status {
         carry,
-        ..status_of(cpu.rflags)
+        ..status_of(flags)
     };
-    Ok(ends_with(insn, with_flags(&cpu, with_status(cpu.rflags, status))))
+    with_status(flags, status)
+}
+
+/// CMC (SDM volume 2, "CMC—Complement Carry Flag").
+pub fn cmc<B: Bus, I: Intercepts>(
+    insn: &Insn,
+    ctx: &mut Ctx<B, I>,
+    cpu: &mut Cpu,
+) -> Result<End, Stop>
+    requires { IsReady B.sight insn.now ctx.old cpu.old 0 0 }
+    ensures { Finishes B.sight I.hits (cmc_row insn.now (cpu_of ctx.old)) ctx.old result cpu.new ctx.new }
+{
+    let carry = status_of(cpu.rflags).carry;
+    cpu.rflags = with_carry(cpu.rflags, !carry);
+    Ok(done(insn, cpu))
 }
 
 /// CLC (SDM volume 2, "CLC—Clear Carry Flag").
-pub fn clc<B: Bus, I: Intercepts>(insn: &Insn, ctx: &mut Ctx<B, I>) -> Result<Finish, Stop>
-    requires open { IsOpen B.sight ctx.old }
-    ensures same { SameHandles ctx.old ctx.new }
-    ensures open { IsOpen B.sight ctx.new }
-    ensures row { Is (clc_row insn.now (cpu_of ctx.old)) (view B.sight I.hits ctx.old) result (view B.sight I.hits ctx.new) }
+pub fn clc<B: Bus, I: Intercepts>(
+    insn: &Insn,
+    ctx: &mut Ctx<B, I>,
+    cpu: &mut Cpu,
+) -> Result<End, Stop>
+    requires { IsReady B.sight insn.now ctx.old cpu.old 0 0 }
+    ensures { Finishes B.sight I.hits (clc_row insn.now (cpu_of ctx.old)) ctx.old result cpu.new ctx.new }
 {
-    let cpu = *ctx.cpu();
-    let status = Status {
-        carry: false,
-        ..status_of(cpu.rflags)
-    };
-    Ok(ends_with(insn, with_flags(&cpu, with_status(cpu.rflags, status))))
+    cpu.rflags = with_carry(cpu.rflags, false);
+    Ok(done(insn, cpu))
 }
 
 /// STC (SDM volume 2, "STC—Set Carry Flag").
-pub fn stc<B: Bus, I: Intercepts>(insn: &Insn, ctx: &mut Ctx<B, I>) -> Result<Finish, Stop>
-    requires open { IsOpen B.sight ctx.old }
-    ensures same { SameHandles ctx.old ctx.new }
-    ensures open { IsOpen B.sight ctx.new }
-    ensures row { Is (stc_row insn.now (cpu_of ctx.old)) (view B.sight I.hits ctx.old) result (view B.sight I.hits ctx.new) }
+pub fn stc<B: Bus, I: Intercepts>(
+    insn: &Insn,
+    ctx: &mut Ctx<B, I>,
+    cpu: &mut Cpu,
+) -> Result<End, Stop>
+    requires { IsReady B.sight insn.now ctx.old cpu.old 0 0 }
+    ensures { Finishes B.sight I.hits (stc_row insn.now (cpu_of ctx.old)) ctx.old result cpu.new ctx.new }
 {
-    let cpu = *ctx.cpu();
-    let status = Status {
-        carry: true,
-        ..status_of(cpu.rflags)
-    };
-    Ok(ends_with(insn, with_flags(&cpu, with_status(cpu.rflags, status))))
+    cpu.rflags = with_carry(cpu.rflags, true);
+    Ok(done(insn, cpu))
 }
 
 /// The flags with this DF.
 fn with_direction(flags: u64, down: bool) -> u64
     ensures { result ≡ with_direction flags down }
 {
-    (flags & !(1 << 10)) | if down { 1 << 10 } else { 0 }
+    (flags & !DIRECTION) | if down { DIRECTION } else { 0 }
 }
 
 /// CLD and STD (SDM volume 2).
@@ -71,47 +77,49 @@ pub fn direction<B: Bus, I: Intercepts>(
     down: bool,
     insn: &Insn,
     ctx: &mut Ctx<B, I>,
-) -> Result<Finish, Stop>
-    requires open { IsOpen B.sight ctx.old }
-    ensures same { SameHandles ctx.old ctx.new }
-    ensures open { IsOpen B.sight ctx.new }
-    ensures row { Is (direction_row down insn.now (cpu_of ctx.old)) (view B.sight I.hits ctx.old) result (view B.sight I.hits ctx.new) }
+    cpu: &mut Cpu,
+) -> Result<End, Stop>
+    requires { IsReady B.sight insn.now ctx.old cpu.old 0 0 }
+    ensures { Finishes B.sight I.hits (direction_row down insn.now (cpu_of ctx.old)) ctx.old result cpu.new ctx.new }
 {
-    let cpu = *ctx.cpu();
-    Ok(ends_with(insn, with_flags(&cpu, with_direction(cpu.rflags, down))))
+    cpu.rflags = with_direction(cpu.rflags, down);
+    Ok(done(insn, cpu))
 }
 
 /// AH, whatever prefixes stand.
 fn high_byte_of_ax(cpu: &Cpu) -> u64
     ensures { result ≡ high_byte_of_ax cpu.now }
 {
-    cpu.register(1, false, 4)
+    cpu.register(1, false, AH)
 }
 
 /// SAHF (SDM volume 2, "SAHF—Store AH Into Flags").
-pub fn sahf<B: Bus, I: Intercepts>(insn: &Insn, ctx: &mut Ctx<B, I>) -> Result<Finish, Stop>
-    requires open { IsOpen B.sight ctx.old }
-    ensures same { SameHandles ctx.old ctx.new }
-    ensures open { IsOpen B.sight ctx.new }
-    ensures row { Is (sahf_row insn.now (cpu_of ctx.old)) (view B.sight I.hits ctx.old) result (view B.sight I.hits ctx.new) }
+pub fn sahf<B: Bus, I: Intercepts>(
+    insn: &Insn,
+    ctx: &mut Ctx<B, I>,
+    cpu: &mut Cpu,
+) -> Result<End, Stop>
+    requires { IsReady B.sight insn.now ctx.old cpu.old 0 0 }
+    ensures { Finishes B.sight I.hits (sahf_row insn.now (cpu_of ctx.old)) ctx.old result cpu.new ctx.new }
 {
-    let cpu = *ctx.cpu();
-    let overflow = flag(cpu.rflags, 11);
     let status = Status {
-        overflow,
-        ..status_of(high_byte_of_ax(&cpu))
+        overflow: status_of(cpu.rflags).overflow,
+        ..status_of(high_byte_of_ax(cpu))
     };
-    Ok(ends_with(insn, with_flags(&cpu, with_status(cpu.rflags, status))))
+    cpu.rflags = with_status(cpu.rflags, status);
+    Ok(done(insn, cpu))
 }
 
 /// LAHF (SDM volume 2, "LAHF—Load Status Flags Into AH Register").
-pub fn lahf<B: Bus, I: Intercepts>(insn: &Insn, ctx: &mut Ctx<B, I>) -> Result<Finish, Stop>
-    requires open { IsOpen B.sight ctx.old }
-    ensures same { SameHandles ctx.old ctx.new }
-    ensures open { IsOpen B.sight ctx.new }
-    ensures row { Is (lahf_row insn.now (cpu_of ctx.old)) (view B.sight I.hits ctx.old) result (view B.sight I.hits ctx.new) }
+pub fn lahf<B: Bus, I: Intercepts>(
+    insn: &Insn,
+    ctx: &mut Ctx<B, I>,
+    cpu: &mut Cpu,
+) -> Result<End, Stop>
+    requires { IsReady B.sight insn.now ctx.old cpu.old 0 0 }
+    ensures { Finishes B.sight I.hits (lahf_row insn.now (cpu_of ctx.old)) ctx.old result cpu.new ctx.new }
 {
-    let cpu = *ctx.cpu();
-    let after = cpu.with_register(1, false, 4, cpu.rflags % (1 << 8));
-    Ok(ends_with(insn, after))
+    let flags = cpu.rflags % (1 << 8);
+    cpu.set_register(1, false, AH, flags);
+    Ok(done(insn, cpu))
 }

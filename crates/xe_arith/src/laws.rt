@@ -4,6 +4,7 @@ ghost use Rattle.std.specs.Prelude.{◌≡◌, true};
 ghost use Rattle.xe_base.specs.State.{Valid};
 ghost use Rattle.xe_base.specs.declared.cpu.Cpu.{Cpu};
 ghost use Rattle.xe_opmap.specs.declared.insn.Insn.{Insn};
+ghost use Rattle.xe_ctx.specs.Bounds.{TakesAtMost};
 ghost use Rattle.xe_ctx.specs.Finishes.{EachGives, IsSound};
 ghost use Rattle.xe_ctx.specs.Operand.{IsOf};
 ghost use Rattle.xe_arith.specs.Plain.{EndsPlainly};
@@ -23,4 +24,11 @@ pub fn rows_change_states_calmly()
 #[tactic(auto, using(crate::proofs::CalmRows::rows_sound))]
 pub fn rows_keep_states_valid()
     ensures { (insn : Insn) → (cpu : Cpu) → is_row insn.row ≡ true → IsOf cpu insn → Valid cpu → EachGives IsSound (row_of insn cpu) }
+{}
+
+/// Whatever memory and devices answer, an instruction of this crate's rows asks for at most 64 things,
+/// makes at most 12 accesses, and touches at most 38 bytes of RAM.
+#[tactic(auto, using(crate::proofs::BoundRows::rows_take_little))]
+pub fn rows_take_little()
+    ensures { (insn : Insn) → (cpu : Cpu) → IsOf cpu insn → TakesAtMost 64 12 38 (row_of insn cpu) }
 {}

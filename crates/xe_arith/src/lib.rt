@@ -22,5 +22,5 @@ mod source;
 mod tests;
 mod unary;
 
-pub use laws::{rows_change_states_calmly, rows_keep_states_valid};
-pub use rows::{exec, is_row};
+pub use laws::{rows_change_states_calmly, rows_keep_states_valid, rows_take_little};
+pub use rows::{exec, exec_into, is_row};

@@ -1,39 +1,76 @@
 //! Moves between registers, memory and immediates.
 
-ghost use Rattle.std.specs.Prelude.{◌≡◌, ℕ, ◌≤◌, ◌<◌, IsTrue};
-ghost use Rattle.xe_base.specs.Registers.{is_size};
+ghost use Rattle.std.specs.Prelude.{◌≡◌, ◌<◌};
+ghost use Rattle.xe_ctx.specs.Contract.{ℕ, IsTrue, is_size, IsOf, IsOperand, IsReady, Finishes, cpu_of};
 ghost use Rattle.xe_opmap.specs.Encoding.{IsSize};
-ghost use Rattle.xe_ctx.specs.Is.{Is};
-ghost use Rattle.xe_ctx.specs.Operand.{IsOf, IsOperand};
-ghost use Rattle.xe_ctx.specs.View.{view, cpu_of, SameHandles, IsOpen, accesses_left, bytes_left};
-ghost use Rattle.xe_arith.specs.Moves.{move_size, at_address, move_target, move_source, mov_row, offset_of, lea_row, exchange_size, exchange_partner, xchg_row, nop_row, table_byte, xlat_row, reversed, bswap_row};
+ghost use Rattle.xe_arith.specs.Moves.{is_to_e, is_to_g, is_from_address, is_to_address, is_to_named_register, names_byte_register, move_size, at_address, move_target, move_source, mov_row, offset_of, lea_row, is_with_g, exchange_size, exchange_partner, xchg_row, nop_row, table_byte, xlat_row, reversed, bswap_row};
 ghost use Rattle.xe_arith.specs.Source.{IsSource};
 
 use crate::source::{Source, read_source};
 use xe_base::{Cpu, SegName};
 use xe_ctx::operand::{
-    Operand, ends_with, opcode_register, operand_of, read_for_write, read_operand, read_register,
-    reg_of, size_by_opcode, write_operand, write_register,
+    AX, BX, Operand, done, opcode_register, operand_of, read_for_write, read_operand,
+    read_register, reg_of, size_by_opcode, write_operand, write_register,
 };
-use xe_ctx::{Bus, Ctx, Finish, Stop};
+use xe_ctx::{Bus, Ctx, End, Stop};
 use xe_icpt::Intercepts;
 use xe_opmap::Insn;
 
-/// The size of a MOV in bytes: B0 to BF move an immediate to the register of the opcode, bytes up to
-/// B7; the other opcodes say their size by their last bit.
+/// Whether a MOV writes E from G: 88 and 89.
+fn is_to_e(opcode: u16) -> bool
+    ensures { result ≡ is_to_e opcode }
+{
+    opcode == 0x88 || opcode == 0x89
+}
+
+/// Whether a MOV writes G from E: 8A and 8B.
+fn is_to_g(opcode: u16) -> bool
+    ensures { result ≡ is_to_g opcode }
+{
+    opcode == 0x8A || opcode == 0x8B
+}
+
+/// Whether a MOV writes the accumulator from the address that the instruction carries: A0 and A1.
+fn is_from_address(opcode: u16) -> bool
+    ensures { result ≡ is_from_address opcode }
+{
+    opcode == 0xA0 || opcode == 0xA1
+}
+
+/// Whether a MOV writes to the address that the instruction carries, from the accumulator: A2 and A3.
+fn is_to_address(opcode: u16) -> bool
+    ensures { result ≡ is_to_address opcode }
+{
+    opcode == 0xA2 || opcode == 0xA3
+}
+
+/// Whether a MOV writes an immediate to a register that its opcode names: B0 to BF.
+fn is_to_named_register(opcode: u16) -> bool
+    ensures { result ≡ is_to_named_register opcode }
+{
+    opcode / 16 == 0xB
+}
+
+/// Whether the opcode of such a MOV names a byte register: B0 to B7.
+fn names_byte_register(opcode: u16) -> bool
+    ensures { result ≡ names_byte_register opcode }
+{
+    opcode % 16 < 8
+}
+
+/// The size of a MOV in bytes: where the opcode names a register, its fourth bit chooses between bytes
+/// and the operand size, else its last.
 fn move_size(insn: &Insn, cpu: &Cpu) -> u8
     requires { IsOf cpu.now insn.now }
     ensures value { result ≡ move_size insn.now }
     ensures size { IsTrue (is_size result) }
 {
-    if insn.opcode < 0xB0 {
+    if !is_to_named_register(insn.opcode) {
         size_by_opcode(insn, cpu)
-    } else if insn.opcode < 0xB8 {
+    } else if names_byte_register(insn.opcode) {
         1
-    } else if insn.opcode < 0xC0 {
-        insn.opsize
     } else {
-        size_by_opcode(insn, cpu)
+        insn.opsize
     }
 }
 
@@ -54,15 +91,13 @@ fn move_target(insn: &Insn, cpu: &Cpu) -> Operand
     ensures value { result ≡ move_target insn.now cpu.now }
     ensures register { IsOperand result }
 {
-    if insn.opcode < 0x8A {
-        operand_of(insn, cpu)
-    } else if insn.opcode < 0xA0 {
+    if is_to_g(insn.opcode) {
         Operand::Register(reg_of(insn, cpu))
-    } else if insn.opcode < 0xA2 {
-        Operand::Register(0)
-    } else if insn.opcode < 0xB0 {
+    } else if is_from_address(insn.opcode) {
+        Operand::Register(AX)
+    } else if is_to_address(insn.opcode) {
         at_address(insn)
-    } else if insn.opcode < 0xC0 {
+    } else if is_to_named_register(insn.opcode) {
         Operand::Register(opcode_register(insn))
     } else {
         operand_of(insn, cpu)
@@ -75,34 +110,34 @@ fn move_source(insn: &Insn, cpu: &Cpu) -> Source
     ensures value { result ≡ move_source insn.now cpu.now }
     ensures register { IsSource result }
 {
-    if insn.opcode < 0x8A {
+    if is_to_e(insn.opcode) {
         Source::Place(Operand::Register(reg_of(insn, cpu)))
-    } else if insn.opcode < 0xA0 {
+    } else if is_to_g(insn.opcode) {
         Source::Place(operand_of(insn, cpu))
-    } else if insn.opcode < 0xA2 {
+    } else if is_from_address(insn.opcode) {
         Source::Place(at_address(insn))
-    } else if insn.opcode < 0xB0 {
-        Source::Place(Operand::Register(0))
+    } else if is_to_address(insn.opcode) {
+        Source::Place(Operand::Register(AX))
     } else {
         Source::Number(insn.imm)
     }
 }
 
 /// MOV (SDM volume 2, "MOV—Move").
-pub fn mov<B: Bus, I: Intercepts>(insn: &Insn, ctx: &mut Ctx<B, I>) -> Result<Finish, Stop>
-    requires insn { IsOf (cpu_of ctx.old) insn.now }
-    requires open { IsOpen B.sight ctx.old }
-    requires accesses { 10 ≤ accesses_left ctx.old }
-    requires bytes { 36 ≤ bytes_left ctx.old }
-    ensures same { SameHandles ctx.old ctx.new }
-    ensures open { IsOpen B.sight ctx.new }
-    ensures row { Is (mov_row insn.now (cpu_of ctx.old)) (view B.sight I.hits ctx.old) result (view B.sight I.hits ctx.new) }
+pub fn mov<B: Bus, I: Intercepts>(
+    insn: &Insn,
+    ctx: &mut Ctx<B, I>,
+    cpu: &mut Cpu,
+) -> Result<End, Stop>
+    requires { IsReady B.sight insn.now ctx.old cpu.old 10 36 }
+    ensures { Finishes B.sight I.hits (mov_row insn.now (cpu_of ctx.old)) ctx.old result cpu.new ctx.new }
 {
-    let cpu = *ctx.cpu();
-    let size = move_size(insn, &cpu);
-    let value = read_source(insn, ctx, move_source(insn, &cpu), size)?;
-    let after = write_operand(insn, ctx, cpu, move_target(insn, &cpu), size, value)?;
-    Ok(ends_with(insn, after))
+    let size = move_size(insn, cpu);
+    let source = move_source(insn, cpu);
+    let target = move_target(insn, cpu);
+    let value = read_source(insn, ctx, source, size)?;
+    write_operand(insn, ctx, cpu, target, size, value)?;
+    Ok(done(insn, cpu))
 }
 
 /// Where an operand in memory lies in its segment.
@@ -116,17 +151,26 @@ fn offset_of(operand: Operand) -> u64
 }
 
 /// LEA (SDM volume 2, "LEA—Load Effective Address").
-pub fn lea<B: Bus, I: Intercepts>(insn: &Insn, ctx: &mut Ctx<B, I>) -> Result<Finish, Stop>
-    requires insn { IsOf (cpu_of ctx.old) insn.now }
-    requires open { IsOpen B.sight ctx.old }
-    ensures same { SameHandles ctx.old ctx.new }
-    ensures open { IsOpen B.sight ctx.new }
-    ensures row { Is (lea_row insn.now (cpu_of ctx.old)) (view B.sight I.hits ctx.old) result (view B.sight I.hits ctx.new) }
+pub fn lea<B: Bus, I: Intercepts>(
+    insn: &Insn,
+    ctx: &mut Ctx<B, I>,
+    cpu: &mut Cpu,
+) -> Result<End, Stop>
+    requires { IsReady B.sight insn.now ctx.old cpu.old 0 0 }
+    ensures { Finishes B.sight I.hits (lea_row insn.now (cpu_of ctx.old)) ctx.old result cpu.new ctx.new }
 {
-    let cpu = *ctx.cpu();
-    let offset = offset_of(operand_of(insn, &cpu));
-    let after = write_register(insn, &cpu, insn.opsize, reg_of(insn, &cpu), offset);
-    Ok(ends_with(insn, after))
+    let offset = offset_of(operand_of(insn, cpu));
+    let register = reg_of(insn, cpu);
+    write_register(insn, cpu, insn.opsize, register, offset);
+    Ok(done(insn, cpu))
+}
+
+/// Whether an XCHG is with G: 86 and 87. The others exchange the accumulator with the register that
+/// the opcode names.
+fn is_with_g(opcode: u16) -> bool
+    ensures { result ≡ is_with_g opcode }
+{
+    opcode < 0x90
 }
 
 /// The size of an XCHG in bytes.
@@ -135,21 +179,20 @@ fn exchange_size(insn: &Insn, cpu: &Cpu) -> u8
     ensures value { result ≡ exchange_size insn.now }
     ensures size { IsTrue (is_size result) }
 {
-    if insn.opcode < 0x90 {
+    if is_with_g(insn.opcode) {
         size_by_opcode(insn, cpu)
     } else {
         insn.opsize
     }
 }
 
-/// The register that an XCHG exchanges with its operand: that of the ModRM byte, or that of the
-/// opcode, where the operand is the accumulator.
+/// The register that an XCHG exchanges with its operand.
 fn exchange_partner(insn: &Insn, cpu: &Cpu) -> u8
     requires { IsOf cpu.now insn.now }
     ensures value { result ≡ exchange_partner insn.now }
     ensures register { result < 16 }
 {
-    if insn.opcode < 0x90 {
+    if is_with_g(insn.opcode) {
         reg_of(insn, cpu)
     } else {
         opcode_register(insn)
@@ -157,35 +200,34 @@ fn exchange_partner(insn: &Insn, cpu: &Cpu) -> u8
 }
 
 /// XCHG (SDM volume 2, "XCHG—Exchange Register/Memory With Register").
-pub fn xchg<B: Bus, I: Intercepts>(insn: &Insn, ctx: &mut Ctx<B, I>) -> Result<Finish, Stop>
-    requires insn { IsOf (cpu_of ctx.old) insn.now }
-    requires open { IsOpen B.sight ctx.old }
-    requires accesses { 10 ≤ accesses_left ctx.old }
-    requires bytes { 36 ≤ bytes_left ctx.old }
-    ensures same { SameHandles ctx.old ctx.new }
-    ensures open { IsOpen B.sight ctx.new }
-    ensures row { Is (xchg_row insn.now (cpu_of ctx.old)) (view B.sight I.hits ctx.old) result (view B.sight I.hits ctx.new) }
+pub fn xchg<B: Bus, I: Intercepts>(
+    insn: &Insn,
+    ctx: &mut Ctx<B, I>,
+    cpu: &mut Cpu,
+) -> Result<End, Stop>
+    requires { IsReady B.sight insn.now ctx.old cpu.old 10 36 }
+    ensures { Finishes B.sight I.hits (xchg_row insn.now (cpu_of ctx.old)) ctx.old result cpu.new ctx.new }
 {
-    let cpu = *ctx.cpu();
-    let size = exchange_size(insn, &cpu);
-    let partner = exchange_partner(insn, &cpu);
-    let operand = operand_of(insn, &cpu);
+    let size = exchange_size(insn, cpu);
+    let partner = exchange_partner(insn, cpu);
+    let operand = operand_of(insn, cpu);
     let value = read_for_write(insn, ctx, operand, size)?;
-    let given = read_register(insn, &cpu, size, partner);
-    let taken = write_register(insn, &cpu, size, partner, value);
-    let after = write_operand(insn, ctx, taken, operand, size, given)?;
-    Ok(ends_with(insn, after))
+    let given = read_register(insn, cpu, size, partner);
+    write_register(insn, cpu, size, partner, value);
+    write_operand(insn, ctx, cpu, operand, size, given)?;
+    Ok(done(insn, cpu))
 }
 
 /// NOP (SDM volume 2, "NOP—No Operation"), and the hints, which access nothing.
-pub fn nop<B: Bus, I: Intercepts>(insn: &Insn, ctx: &mut Ctx<B, I>) -> Result<Finish, Stop>
-    requires open { IsOpen B.sight ctx.old }
-    ensures same { SameHandles ctx.old ctx.new }
-    ensures open { IsOpen B.sight ctx.new }
-    ensures row { Is (nop_row insn.now (cpu_of ctx.old)) (view B.sight I.hits ctx.old) result (view B.sight I.hits ctx.new) }
+pub fn nop<B: Bus, I: Intercepts>(
+    insn: &Insn,
+    ctx: &mut Ctx<B, I>,
+    cpu: &mut Cpu,
+) -> Result<End, Stop>
+    requires { IsReady B.sight insn.now ctx.old cpu.old 0 0 }
+    ensures { Finishes B.sight I.hits (nop_row insn.now (cpu_of ctx.old)) ctx.old result cpu.new ctx.new }
 {
-    let cpu = *ctx.cpu();
-    Ok(ends_with(insn, cpu))
+    Ok(done(insn, cpu))
 }
 
 /// The byte of the table at rBX that AL numbers: in DS, or in the segment of a prefix.
@@ -194,8 +236,8 @@ fn table_byte(insn: &Insn, cpu: &Cpu) -> Operand
     ensures value { result ≡ table_byte insn.now cpu.now }
     ensures register { IsOperand result }
 {
-    let sum = read_register(insn, cpu, insn.adsize, 3) as u128
-        + read_register(insn, cpu, 1, 0) as u128;
+    let sum = read_register(insn, cpu, insn.adsize, BX) as u128
+        + read_register(insn, cpu, 1, AX) as u128;
     let offset = match insn.adsize {
         2 => sum % (1 << 16),
         4 => sum % (1 << 32),
@@ -208,19 +250,17 @@ fn table_byte(insn: &Insn, cpu: &Cpu) -> Operand
 }
 
 /// XLAT (SDM volume 2, "XLAT/XLATB—Table Look-up Translation").
-pub fn xlat<B: Bus, I: Intercepts>(insn: &Insn, ctx: &mut Ctx<B, I>) -> Result<Finish, Stop>
-    requires insn { IsOf (cpu_of ctx.old) insn.now }
-    requires open { IsOpen B.sight ctx.old }
-    requires accesses { 10 ≤ accesses_left ctx.old }
-    requires bytes { 36 ≤ bytes_left ctx.old }
-    ensures same { SameHandles ctx.old ctx.new }
-    ensures open { IsOpen B.sight ctx.new }
-    ensures row { Is (xlat_row insn.now (cpu_of ctx.old)) (view B.sight I.hits ctx.old) result (view B.sight I.hits ctx.new) }
+pub fn xlat<B: Bus, I: Intercepts>(
+    insn: &Insn,
+    ctx: &mut Ctx<B, I>,
+    cpu: &mut Cpu,
+) -> Result<End, Stop>
+    requires { IsReady B.sight insn.now ctx.old cpu.old 10 36 }
+    ensures { Finishes B.sight I.hits (xlat_row insn.now (cpu_of ctx.old)) ctx.old result cpu.new ctx.new }
 {
-    let cpu = *ctx.cpu();
-    let value = read_operand(insn, ctx, table_byte(insn, &cpu), 1)?;
-    let after = write_register(insn, &cpu, 1, 0, value);
-    Ok(ends_with(insn, after))
+    let value = read_operand(insn, ctx, table_byte(insn, cpu), 1)?;
+    write_register(insn, cpu, 1, AX, value);
+    Ok(done(insn, cpu))
 }
 
 /// The bytes of a number in the other order; of two bytes, which the manual leaves undefined, the
@@ -237,17 +277,17 @@ fn reversed(size: u8, value: u64) -> u64
 }
 
 /// BSWAP (SDM volume 2, "BSWAP—Byte Swap").
-pub fn bswap<B: Bus, I: Intercepts>(insn: &Insn, ctx: &mut Ctx<B, I>) -> Result<Finish, Stop>
-    requires insn { IsOf (cpu_of ctx.old) insn.now }
-    requires open { IsOpen B.sight ctx.old }
-    ensures same { SameHandles ctx.old ctx.new }
-    ensures open { IsOpen B.sight ctx.new }
-    ensures row { Is (bswap_row insn.now (cpu_of ctx.old)) (view B.sight I.hits ctx.old) result (view B.sight I.hits ctx.new) }
+pub fn bswap<B: Bus, I: Intercepts>(
+    insn: &Insn,
+    ctx: &mut Ctx<B, I>,
+    cpu: &mut Cpu,
+) -> Result<End, Stop>
+    requires { IsReady B.sight insn.now ctx.old cpu.old 0 0 }
+    ensures { Finishes B.sight I.hits (bswap_row insn.now (cpu_of ctx.old)) ctx.old result cpu.new ctx.new }
 {
-    let cpu = *ctx.cpu();
     let size = insn.opsize;
     let register = opcode_register(insn);
-    let value = reversed(size, read_register(insn, &cpu, size, register));
-    let after = write_register(insn, &cpu, size, register, value);
-    Ok(ends_with(insn, after))
+    let value = reversed(size, read_register(insn, cpu, size, register));
+    write_register(insn, cpu, size, register, value);
+    Ok(done(insn, cpu))
 }

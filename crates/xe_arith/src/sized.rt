@@ -11,19 +11,12 @@ ghost use Rattle.xe_flags.specs.Products.{low_half, high_half, mul_flags};
 ghost use Rattle.xe_flags.specs.Quotients.{divided};
 ghost use Rattle.xe_flags.specs.Scans.{scan_found, scan_flags};
 ghost use Rattle.xe_flags.specs.Shifts.{shift_word, shift_flags};
-ghost use Rattle.xe_arith.specs.Sized.{low, with_flags};
+ghost use Rattle.xe_arith.specs.Sized.{low};
 
-use xe_base::{Cpu, Word};
+use xe_base::Word;
 use xe_flags::{
     AluOp, BitOp, ScanOp, ShiftOp, UnOp, alu, bit, div, double_shift, mul, scan, shift, unary,
 };
-
-/// The registers with these flags.
-pub fn with_flags(cpu: &Cpu, rflags: u64) -> Cpu
-    ensures { result ≡ with_flags cpu.now rflags }
-{
-    Cpu { rflags, ..*cpu }
-}
 
 fn alu_in<const W: u32>(op: AluOp, a: u64, b: u64, flags: u64) -> (u64, u64)
     requires { IsWidth W }
@@ -118,7 +111,7 @@ pub fn double_at(left: bool, size: u8, a: u64, b: u64, count: u8, flags: u64) ->
 }
 
 /// A product in two words, and the flags after it.
-#[derive(Clone, Copy, Drop)]
+#[derive(Clone, Copy)]
 pub struct Product {
     pub low: u64,
     pub high: u64,

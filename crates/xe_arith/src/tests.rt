@@ -2,7 +2,7 @@
 
 ghost use Rattle.std.specs.Prelude.{◌≤◌, length, None};
 
-use crate::{exec, is_row, rows_change_states_calmly, rows_keep_states_valid};
+use crate::{exec, is_row, rows_change_states_calmly, rows_keep_states_valid, rows_take_little};
 use std::alloc::Global;
 use std::process::Abort;
 use std::test::Fail;
@@ -59,6 +59,7 @@ fn after(alloc: Global, cpu: Cpu, bytes: &[u8]) -> Option<Cpu>
 fn runs_instructions(rt: HostRuntime) {
     rows_change_states_calmly();
     rows_keep_states_valid();
+    rows_take_little();
     let mut cpu = Cpu::reset();
     cpu.gpr[0] = 0x1234;
     cpu.gpr[3] = 0xFFFF_0001;

@@ -1,10 +1,9 @@
-use Rattle.std.proofs.Common.{ℕ, ◌≡◌, ◌+◌, List, [], ◌++◌, Bool, Option, Some, None, Result, Ok, Err, refl, sym, ap, ◌∙◌, if◌then◌else◌, subst, arith}
-use Rattle.std.proofs.lemmas.List.{append-nil}
-use Rattle.std.proofs.lemmas.List.Elements.{All-nil}
-use Rattle.arrayvec.specs.ArrayVec.{ArrayVec}
-use Rattle.xe_base.specs.Access.{IsWellMade}
-use Rattle.xe_base.specs.State.{Valid}
+use Rattle.std.proofs.Common.{ℕ, ◌≡◌, ◌+◌, List, [], length, Bool, true, false, Option, Some, None, Result, Ok, Err, refl, sym, ap, ◌∙◌, if◌then◌else◌, subst, inl, inr, arith}
+use Rattle.std.proofs.lemmas.Bool.{cases_Bool}
+use Rattle.xe_base.specs.declared.access.Access.{Access}
 use Rattle.xe_base.specs.declared.access.Made.{Made}
+use Rattle.xe_base.specs.Ram.{Area}
+use Rattle.xe_base.specs.State.{Valid}
 use Rattle.xe_base.specs.declared.cpu.Cpu.{Cpu}
 use Rattle.xe_icpt.specs.declared.exit.Exit.{Exit}
 use Rattle.xe_icpt.specs.declared.point.Point.{Point}
@@ -14,37 +13,46 @@ use Rattle.xe_opmap.specs.declared.insn.Insn.{Insn}
 use Rattle.xe_opmap.specs.declared.row.Row.{Row}
 use Rattle.xe_ctx.specs.Accept.{accepted}
 use Rattle.xe_ctx.specs.Bus.{BusView}
+use Rattle.xe_ctx.specs.Call.{is_plain, Tried, Reports, judged, told_by, left_by, state_by, why_by}
+use Rattle.xe_ctx.specs.Ending.{Ending, Raises, Exits, Interrupts, HandsOver, stop_of}
 use Rattle.xe_ctx.specs.Finishes.{IsSound}
-use Rattle.xe_ctx.specs.Is.{Sight, Moves, Equals, Is, is, does}
-use Rattle.xe_ctx.specs.Part.{View, Gave, Stops, begins}
+use Rattle.xe_ctx.specs.Is.{Sight, Is, Stood}
+use Rattle.xe_ctx.specs.Kept.{Kept, IsKept, Agrees, expected, nothing}
 use Rattle.xe_ctx.specs.Operand.{IsOf}
+use Rattle.xe_ctx.specs.Part.{View, begins}
 use Rattle.xe_ctx.specs.Run.{run}
+use Rattle.xe_ctx.specs.Runs.{finished}
 use Rattle.xe_ctx.specs.State.{State}
-use Rattle.xe_ctx.specs.Step.{Ends, step, stepped, executed, concluded, early, reported, outcome_of, retired, tf}
-use Rattle.xe_ctx.specs.Supply.{Supply, Supplies, answers_alone, answers, from_tape}
+use Rattle.xe_ctx.specs.Step.{step, stepped, executed, concluded, early, outcome_of, undefined_opcode, retired, tf, is_done}
+use Rattle.xe_ctx.specs.Supply.{Supply}
 use Rattle.xe_ctx.specs.Tree.{Tree}
-use Rattle.xe_ctx.specs.View.{opens, accepts}
+use Rattle.xe_ctx.specs.View.{accepts, opens}
 use Rattle.xe_ctx.specs.declared.report.Outcome.{Outcome}
-use Rattle.xe_ctx.specs.declared.report.Outcome.TheVariants.{Done, Unbuilt}
+use Rattle.xe_ctx.specs.declared.report.Outcome.TheVariants.{Done, Unhandled, Unbuilt}
+use Rattle.xe_ctx.specs.declared.report.Outcome.TheVariants as outcomes
 use Rattle.xe_ctx.specs.declared.report.Report.{Report}
+use Rattle.xe_ctx.specs.declared.stop.End.{End}
 use Rattle.xe_ctx.specs.declared.stop.Finish.{Finish}
 use Rattle.xe_ctx.specs.declared.stop.Stop.{Stop}
-use Rattle.xe_ctx.proofs.FinishLaws.{supplied, gives_of}
-use Rattle.xe_core.specs.Emulate.{decided, fetched, step_of, Reports}
+use Rattle.xe_ctx.specs.declared.stop.Stop.TheVariants as stops
+use Rattle.xe_ctx.proofs.FinishLaws.{gives_of}
+use Rattle.xe_ctx.proofs.Reporting.{reports}
+use Rattle.xe_ctx.proofs.Trying.{tried_early, tried_finish, tried_stop}
+use Rattle.xe_core.specs.Emulate.{decided, fetched, step_of, after_by, Keepable}
 use Rattle.xe_core.specs.Rows.{table, DoesRow}
 use Rattle.xe_core.proofs.RowLaws.{sound_row}
 
 -- ---- the step by what was fetched
 
 module _ (s : State) (hits : Point → Option Exit) (supply : Supply) where
-  stepped-early : (reason : Stop) (d : Decoded) (o : Outcome) → decided reason d ≡ Err o → stepped table s hits supply reason d ≡ early s None o supply
+  stepped-early : (reason : Ending) (d : Decoded) (o : Outcome) → decided reason d ≡ Err o → stepped table s hits supply reason d ≡ early s None o supply
   stepped-early reason (Spelled i) o h = cc
   stepped-early reason (Invalid n) o h = let same : _ ≡ o = cc in ap (λ x. early s None x supply) same
   stepped-early reason Outside o h = let same : _ ≡ o = cc in ap (λ x. early s None x supply) same
-  stepped-early reason More o h = let same : outcome_of reason ≡ o = cc in ap (λ x. early s None x supply) same
+  stepped-early reason More o h = let same : outcome_of (stop_of reason) ≡ o = cc in ap (λ x. early s None x supply) same
 
-  stepped-on : (reason : Stop) (d : Decoded) (insn : Insn) → decided reason d ≡ Ok insn → stepped table s hits supply reason d ≡ executed (table insn) insn s hits supply
-  stepped-on reason (Spelled i) insn h = let same : i ≡ insn = cc in ap (λ x. executed (table x) x s hits supply) same
+  stepped-on : (reason : Ending) (d : Decoded) (insn : Insn) → decided reason d ≡ Ok insn → stepped table s hits supply reason d ≡ executed (table insn s.cpu) insn s hits supply
+  stepped-on reason (Spelled i) insn h = let same : i ≡ insn = cc in ap (λ x. executed (table x s.cpu) x s hits supply) same
   stepped-on reason (Invalid n) insn h = cc
   stepped-on reason Outside insn h = cc
   stepped-on reason More insn h = cc
@@ -53,130 +61,225 @@ module _ (s : State) (hits : Point → Option Exit) (supply : Supply) where
   unfolding step fetched
   step_early o h = stepped-early _ _ o h
 
-  step_unbuilt : (insn : Insn) → fetched s ≡ Ok insn → table insn ≡ None → step_of s hits supply ≡ early s (Some insn.row) (Unbuilt (Some insn.row)) supply
+  step_unbuilt : (insn : Insn) → fetched s ≡ Ok insn → table insn s.cpu ≡ None → step_of s hits supply ≡ early s (Some insn.row) (Unbuilt (Some insn.row)) supply
   unfolding step fetched
   step_unbuilt insn h n = stepped-on _ _ insn h ∙ ap (λ t. executed t insn s hits supply) n
 
-  step_on : (insn : Insn) (tree : Cpu → Tree Finish) → fetched s ≡ Ok insn → table insn ≡ Some tree → step_of s hits supply ≡ concluded s insn.row (run (tree s.cpu) (accepted insn.len (begins s hits)) supply)
-  unfolding step fetched
+  step_on : (insn : Insn) (tree : Tree Finish) → fetched s ≡ Ok insn → table insn s.cpu ≡ Some tree → step_of s hits supply ≡ concluded s insn.row (run tree (begins s hits) supply)
+  unfolding step fetched accepted
   step_on insn tree h n = stepped-on _ _ insn h ∙ ap (λ t. executed t insn s hits supply) n
 
--- ---- an end before anything was asked
+-- ---- ends by their outcomes
 
--- the report of a step that didn't finish
-abbrev halted : Option Row → Outcome → ArrayVec Made → Report
-halted row outcome accesses = record { row = row; finished = None; elements = 0; accesses = accesses; outcome = outcome }
+ending-plain : (e : Ending) → is_plain (outcome_of (stop_of e)) ≡ true
+ending-plain (Raises f) = refl
+ending-plain (Exits x) = refl
+ending-plain (Interrupts x) = refl
+ending-plain (HandsOver h) = refl
 
-module _ (s after : State) (hits : Point → Option Exit) (r : Report) (old new : BusView) (row : Option Row) (outcome : Outcome) (accesses : ArrayVec Made) where
-  reports_early : ((supply : Supply) → step_of s hits supply ≡ early s row outcome supply) → r ≡ halted row outcome accesses → accesses.items ≡ [] → after ≡ s → new ≡ old → Reports s hits old r after new
-  reports_early e told none same bus = rw (told, same, bus) (record {
-    step_ = ap (λ ms. step_of s hits (answers_alone (answers ms))) none ∙ e (answers_alone []) ∙ ap (λ ms. Ends (record { row = row; outcome = outcome; state = s; made = ms; rest = answers_alone [] })) (sym none);
-    told = λ t tape. record {
-      tape = t;
-      after_is = tape;
-      call = e (from_tape t) ∙ ap (λ ms. Ends (record { row = row; outcome = outcome; state = s; made = ms; rest = from_tape t })) (sym none);
-      log = rw none (sym (append-nil t.log));
-    };
-    untold = λ told. told;
-    room_ = rw none (omega arith);
-    spare_ = λ k. refl;
-    well_made = rw none (All-nil IsWellMade);
-  })
+pub stop-not-done : (e : Stop) → is_done (outcome_of e) ≡ false
+stop-not-done (stops.Pending a) = refl
+stop-not-done (stops.BusFault a) = refl
+stop-not-done (stops.Diverged d) = refl
+stop-not-done (stops.Fault f) = refl
+stop-not-done (stops.Intercept x) = refl
+stop-not-done (stops.Event x) = refl
+stop-not-done (stops.Handoff h) = refl
 
-pub early_reports : (s after : State) (hits : Point → Option Exit) (r : Report) (old new : BusView) (outcome : Outcome) (accesses : ArrayVec Made) → fetched s ≡ Err outcome → r ≡ halted None outcome accesses → accesses.items ≡ [] → after ≡ s → new ≡ old → Reports s hits old r after new
-early_reports s after hits r old new outcome accesses h = reports_early s after hits r old new None outcome accesses (λ supply. step_early s hits supply outcome h)
+record IsEarly (o : Outcome) : Type 0 where
+  plain : is_plain o ≡ true
+  undone : is_done o ≡ false
 
-pub unbuilt_reports : (s after : State) (hits : Point → Option Exit) (r : Report) (old new : BusView) (insn : Insn) (accesses : ArrayVec Made) → fetched s ≡ Ok insn → table insn ≡ None → r ≡ halted (Some insn.row) (Unbuilt (Some insn.row)) accesses → accesses.items ≡ [] → after ≡ s → new ≡ old → Reports s hits old r after new
-unbuilt_reports s after hits r old new insn accesses h n = reports_early s after hits r old new (Some insn.row) (Unbuilt (Some insn.row)) accesses (λ supply. step_unbuilt s hits supply insn h n)
+decided-early : (reason : Ending) (d : Decoded) (o : Outcome) → decided reason d ≡ Err o → IsEarly o
+decided-early reason (Spelled i) o h = cc
+decided-early reason (Invalid n) o h = (let same : outcome_of (stop_of undefined_opcode) ≡ o = cc in rw (← same) (record { plain = refl; undone = refl }))
+decided-early reason Outside o h = (let same : Unhandled ≡ o = cc in rw (← same) (record { plain = refl; undone = refl }))
+decided-early reason More o h = (let same : outcome_of (stop_of reason) ≡ o = cc in rw (← same) (record { plain = ending-plain reason; undone = stop-not-done (stop_of reason) }))
 
--- ---- an instruction was done
+fetched-early : (s : State) (o : Outcome) → fetched s ≡ Err o → IsEarly o
+unfolding fetched
+fetched-early s o h = decided-early _ _ o h
 
-accepted-made : (len : ℕ) (v : View) → (accepted len v).made ≡ v.made
+after-undone : (o : Outcome) (s : State) (cpu : Cpu) (ram : List Area) → is_done o ≡ false → after_by o s cpu ram ≡ s
+after-undone o s cpu ram e = rw e refl
+
+-- ---- a step that was tried, by what the code did
+
+accepts-same : (len : ℕ) (v : Sight) → accepts len v ≡ v
 unfolding accepted
-accepted-made len v = refl
+accepts-same len v = refl
+
+module _ (s : State) (hits : Point → Option Exit) (old : Sight) (start : old.step ≡ begins s hits) where
+  none-made : old.step.made ≡ []
+  none-made = ap (λ (v : View). v.made) start
+
+  -- no instruction was found
+  pub tried_none : (o : Outcome) (new : Sight) (cpu : Cpu) (ram : List Area) → fetched s ≡ Err o → new ≡ old → Tried (step_of s hits) old None o (after_by o s cpu ram) new
+  tried_none o new cpu ram h same =
+      let e = fetched-early s o h in
+      rw (after-undone o s cpu ram e.undone, same) (tried_early (step_of s hits) old.step old.kept old.bus none-made s None o e.plain (λ supply. step_early s hits supply o h))
+
+  -- one that isn't built
+  tried_unbuilt : (insn : Insn) (new : Sight) → fetched s ≡ Ok insn → table insn s.cpu ≡ None → new ≡ old → Tried (step_of s hits) old (Some insn.row) (Unbuilt (Some insn.row)) s new
+  tried_unbuilt insn new h n same = rw same (tried_early (step_of s hits) old.step old.kept old.bus none-made s (Some insn.row) (Unbuilt (Some insn.row)) refl (λ supply. step_unbuilt s hits supply insn h n))
+
+  module _ (insn : Insn) (tree : Tree Finish) (h : fetched s ≡ Ok insn) (built : table insn s.cpu ≡ Some tree) where
+    steps : (supply : Supply) → step_of s hits supply ≡ concluded s insn.row (run tree old.step supply)
+    steps supply = step_on s hits supply insn tree h built ∙ ap (λ v. concluded s insn.row (run tree v supply)) (sym start)
+
+    finishes : (f : Finish) (new : Sight) → Is tree old (Ok f) new → Tried (step_of s hits) old (Some insn.row) (Done f.more (retired s.cpu f.retire)) (record { cpu = f.cpu; ram = new.step.work }) new
+    finishes f new d = tried_finish (step_of s hits) old.step old.kept old.bus none-made s insn.row tree steps new f d
+
+    stops-so : (e : Stop) (new : Sight) → Is tree old (Err e) new → Tried (step_of s hits) old (Some insn.row) (outcome_of e) s new
+    stops-so e new d = tried_stop (step_of s hits) old.step old.kept old.bus none-made s insn.row tree steps new e d
 
 -- none was done exactly where none is built
-pub none_built : (o : Option (Cpu → Tree Finish)) (cpu : Cpu) (old new : Sight) → DoesRow o cpu old None new → (o ≡ None) × (new ≡ old)
-none_built None cpu old new d = (refl, d)
-none_built (Some tree) cpu old new d = absurd d
+pub none_built : (o : Option (Tree Finish)) (old new : Sight) → DoesRow o old None new → (o ≡ None) × (new ≡ old)
+none_built None old new d = (refl, d)
+none_built (Some tree) old new d = absurd d
 
-pub row_built : (o : Option (Cpu → Tree Finish)) (cpu : Cpu) (res : Result Finish Stop) (old new : Sight) → DoesRow o cpu old (Some res) new → (tree : Cpu → Tree Finish) × (o ≡ Some tree) × Is (tree cpu) old res new
-row_built None cpu res old new d = absurd d
-row_built (Some tree) cpu res old new d = (tree, refl, d)
+pub row_built : (o : Option (Tree Finish)) (res : Result Finish Stop) (old new : Sight) → DoesRow o old (Some res) new → (tree : Tree Finish) × (o ≡ Some tree) × Is tree old res new
+row_built None res old new d = absurd d
+row_built (Some tree) res old new d = (tree, refl, d)
 
--- what a call knows of the step that it did: the sights at its start and its end
-pub record Did (s : State) (hits : Point → Option Exit) (bus : BusView) (insn : Insn) (res : Result Finish Stop) (old new : Sight) : Type 0 where
-  pub fetch : fetched s ≡ Ok insn
-  pub of_ : IsOf s.cpu insn
-  pub start : old.step ≡ accepted insn.len (begins s hits)
-  pub bus_ : old.bus ≡ bus
-  pub row : DoesRow (table insn) s.cpu old (Some res) new
+-- what a call knows of an instruction that it has begun: the sights at its start and where it was accepted, and the registers
+module _ (s : State) (hits : Point → Option Exit) (old taken begun new : Sight) (insn : Insn) (cpu : Cpu) (start : old.step ≡ begins s hits) (h : Ok insn ≡ fetched s) (of_ : IsOf s.cpu insn) (step : taken ≡ old) (accept : begun ≡ accepts insn.len taken) (registers : cpu ≡ s.cpu) where
+  begun-same : begun ≡ old
+  begun-same = accept ∙ accepts-same insn.len taken ∙ step
 
-pub did : (s at : State) (hits : Point → Option Exit) (bus : BusView) (insn : Insn) (res out : Result Finish Stop) (begun taken old new : Sight) (cpu : Cpu) → at ≡ s → Ok insn ≡ fetched at → IsOf at.cpu insn → begun ≡ opens s hits bus → taken ≡ begun → old ≡ accepts insn.len taken → cpu ≡ s.cpu → DoesRow (table insn) cpu old (Some out) new → out ≡ res → Did s hits bus insn res old new
-did s at hits bus insn res out begun taken old new cpu same value of_ start step accept registers row e = record {
-  fetch = ap fetched (sym same) ∙ sym value;
-  of_ = subst (λ (x : State). IsOf x.cpu insn) same of_;
-  start = ap (λ (v : Sight). v.step) accept ∙ ap (λ (v : Sight). accepted insn.len v.step) (step ∙ start);
-  bus_ = ap (λ (v : Sight). v.bus) accept ∙ ap (λ (v : Sight). v.bus) (step ∙ start);
-  row = rw (← registers, ← e) row;
-}
+  here : (o : Option (Result Finish Stop)) → DoesRow (table insn cpu) begun o new → DoesRow (table insn s.cpu) begun o new
+  here o d = subst (λ (c : Cpu). DoesRow (table insn c) begun o new) registers d
 
-module _ (s after : State) (hits : Point → Option Exit) (r : Report) (insn : Insn) (old new : Sight) (outcome : Outcome) where
-  -- what all ends of an instruction share
-  reports-from : (extra : List Made) → Moves old extra new → old.step ≡ accepted insn.len (begins s hits) → r.accesses.items ≡ new.step.made → ((supply rest : Supply) → Supplies supply extra rest → step_of s hits supply ≡ reported r after rest) → Reports s hits old.bus r after new.bus
-  reports-from extra m start made e =
-      let none : old.step.made ≡ [] = ap (λ (v : View). v.made) start ∙ accepted-made insn.len (begins s hits) in
-      let all : r.accesses.items ≡ extra = made ∙ m.made ∙ ap (λ ms. ms ++ extra) none in
-      record {
-        step_ = subst (λ ms. step_of s hits (answers_alone (answers ms)) ≡ reported r after (answers_alone [])) (sym all) (e _ _ (supplied extra));
-        told = λ t told. (let p = m.told t told in record { tape = p.tape; after_is = p.is; call = e _ _ p.supplies; log = rw all p.log });
-        untold = m.untold;
-        room_ = rw all m.room_;
-        spare_ = m.spare_;
-        well_made = rw all m.well_made;
-      }
+  pub came_unbuilt : DoesRow (table insn cpu) begun None new → Tried (step_of s hits) old (Some insn.row) (Unbuilt (Some insn.row)) s new
+  came_unbuilt d = let n = none_built _ begun new (here None d) in tried_unbuilt s hits old start insn new (sym h) n.0 (n.1 ∙ begun-same)
 
-  finishes : (tree : Cpu → Tree Finish) (f : Finish) (d : Equals (run (tree s.cpu)) old (Ok f) new) → fetched s ≡ Ok insn → table insn ≡ Some tree → old.step ≡ accepted insn.len (begins s hits) → r ≡ record r { row = Some insn.row; outcome = Done f.more (retired s.cpu f.retire) } → after ≡ record { cpu = f.cpu; ram = new.step.work } → r.accesses.items ≡ new.step.made → (supply rest : Supply) → Supplies supply d.extra rest → step_of s hits supply ≡ reported r after rest
-  finishes tree f d h n start told same made supply rest p =
-      let ran : run (tree s.cpu) (accepted insn.len (begins s hits)) supply ≡ Gave f new.step rest = rw (← start) (d.gave f refl supply rest p) in
-      step_on s hits supply insn tree h n ∙ ap (concluded s insn.row) ran ∙ rw (told, same, made) refl
+  pub came_finish : (out : Result End Stop) (end : End) (draft : Cpu) (b : Bool) (n : ℕ) → out ≡ Ok end → b ≡ tf s.cpu → n ≡ (if b then end.retire + 8 else end.retire) → DoesRow (table insn cpu) begun (Some (finished out draft)) new → Tried (step_of s hits) old (Some insn.row) (Done end.more n) (after_by (Done end.more n) s draft new.step.work) new
+  came_finish out end draft b n is trap e d =
+      let row = row_built _ (finished (Ok end) draft) begun new (here (Some (finished (Ok end) draft)) (subst (λ (r : Result End Stop). DoesRow (table insn cpu) begun (Some (finished r draft)) new) is d)) in
+      let did : Is row.0 old (finished (Ok end) draft) new = subst (λ (x : Sight). Is row.0 x (finished (Ok end) draft) new) begun-same row.2 in
+      let same : n ≡ retired s.cpu end.retire = e ∙ ap (λ (x : Bool). if x then end.retire + 8 else end.retire) trap in
+      subst (λ (m : ℕ). Tried (step_of s hits) old (Some insn.row) (Done end.more m) (record { cpu = draft; ram = new.step.work }) new) (sym same) (finishes s hits old start insn row.0 (sym h) row.1 (record { cpu = draft; more = end.more; retire = end.retire }) new did)
 
-  halts : (tree : Cpu → Tree Finish) (x : Stop) (d : Equals (run (tree s.cpu)) old (Err x) new) → fetched s ≡ Ok insn → table insn ≡ Some tree → old.step ≡ accepted insn.len (begins s hits) → r ≡ record r { row = Some insn.row; outcome = outcome_of x } → after ≡ s → r.accesses.items ≡ new.step.made → (supply rest : Supply) → Supplies supply d.extra rest → step_of s hits supply ≡ reported r after rest
-  halts tree x d h n start told same made supply rest p =
-      let ran : run (tree s.cpu) (accepted insn.len (begins s hits)) supply ≡ Stops x new.step rest = rw (← start) (d.stops x refl supply rest p) in
-      step_on s hits supply insn tree h n ∙ ap (concluded s insn.row) ran ∙ rw (told, same, made) refl
+  pub came_stop : (out : Result End Stop) (e : Stop) (draft : Cpu) (ram : List Area) (o : Outcome) → out ≡ Err e → o ≡ outcome_of e → DoesRow (table insn cpu) begun (Some (finished out draft)) new → Tried (step_of s hits) old (Some insn.row) o (after_by o s draft ram) new
+  came_stop out e draft ram o is same d =
+      let row = row_built _ (finished (Err e) draft) begun new (here (Some (finished (Err e) draft)) (subst (λ (r : Result End Stop). DoesRow (table insn cpu) begun (Some (finished r draft)) new) is d)) in
+      let did : Is row.0 old (finished (Err e) draft) new = subst (λ (x : Sight). Is row.0 x (finished (Err e) draft) new) begun-same row.2 in
+      let undone = stop-not-done e in
+      let there : Tried (step_of s hits) old (Some insn.row) (outcome_of e) (after_by (outcome_of e) s draft ram) new = subst (λ (x : State). Tried (step_of s hits) old (Some insn.row) (outcome_of e) x new) (sym (after-undone (outcome_of e) s draft ram undone)) (stops-so s hits old start insn row.0 (sym h) row.1 e new did) in
+      subst (λ (x : Outcome). Tried (step_of s hits) old (Some insn.row) x (after_by x s draft ram) new) (sym same) there
 
-  finish-is : (tree : Cpu → Tree Finish) (f : Finish) → Is (tree s.cpu) old (Ok f) new → fetched s ≡ Ok insn → table insn ≡ Some tree → old.step ≡ accepted insn.len (begins s hits) → r ≡ record r { row = Some insn.row; outcome = Done f.more (retired s.cpu f.retire) } → after ≡ record { cpu = f.cpu; ram = new.step.work } → r.accesses.items ≡ new.step.made → Reports s hits old.bus r after new.bus
-  finish-is tree f (is (does d)) h n start e same made = reports-from d.extra d.moves start made (finishes tree f d h n start e same made)
+  sound-is : (f : Finish) (o : Option (Tree Finish)) → table insn s.cpu ≡ o → Valid s.cpu → DoesRow o begun (Some (Ok f)) new → IsSound f
+  sound-is f None e v d = absurd d
+  sound-is f (Some tree) e v d = gives_of IsSound tree f begun new (sound_row insn s.cpu tree e of_ v) d
 
-  halt-is : (tree : Cpu → Tree Finish) (x : Stop) → Is (tree s.cpu) old (Err x) new → fetched s ≡ Ok insn → table insn ≡ Some tree → old.step ≡ accepted insn.len (begins s hits) → r ≡ record r { row = Some insn.row; outcome = outcome_of x } → after ≡ s → r.accesses.items ≡ new.step.made → Reports s hits old.bus r after new.bus
-  halt-is tree x (is (does d)) h n start e same made = reports-from d.extra d.moves start made (halts tree x d h n start e same made)
+  -- an instruction finishes well
+  pub came_sound : (out : Result End Stop) (end : End) (draft : Cpu) → out ≡ Ok end → Valid s.cpu → DoesRow (table insn cpu) begun (Some (finished out draft)) new → IsSound (record { cpu = draft; more = end.more; retire = end.retire })
+  came_sound out end draft is v d = sound-is (record { cpu = draft; more = end.more; retire = end.retire }) (table insn s.cpu) refl v (here (Some (finished (Ok end) draft)) (subst (λ (r : Result End Stop). DoesRow (table insn cpu) begun (Some (finished r draft)) new) is d))
 
-finished-is : (r : Report) (row : Row) (more : Bool) (n retire : ℕ) (cpu : Cpu) (b : Bool) (accesses : ArrayVec Made) → r ≡ record { row = Some row; finished = Some row; elements = 1; accesses = accesses; outcome = Done more n } → n ≡ (if b then retire + 8 else retire) → b ≡ tf cpu → r ≡ record r { row = Some row; outcome = Done more (retired cpu retire) }
-finished-is r row more n retire cpu b accesses told e f = rw (told, e, f) refl
+-- ---- the judgement
 
-halted-is : (r : Report) (row : Row) (x : Stop) (outcome : Outcome) (accesses : ArrayVec Made) → r ≡ halted (Some row) outcome accesses → outcome ≡ outcome_of x → r ≡ record r { row = Some row; outcome = outcome_of x }
-halted-is r row x outcome accesses told e = rw (told, e) refl
+judged-or : (o : Outcome) (n : ℕ) (u : Option Access) → is_done (judged o n u) ≡ true → (u ≡ None) × (judged o n u ≡ o)
+judged-or o n None e = (refl, refl)
+judged-or (Done more retire) n (Some x) e = cc
+judged-or (outcomes.Pending a) n (Some x) e = cc
+judged-or (outcomes.Fault f) n (Some x) e = cc
+judged-or (outcomes.Intercept f) n (Some x) e = cc
+judged-or (outcomes.Event kind vector next) n (Some x) e = cc
+judged-or (outcomes.Handoff h) n (Some x) e = cc
+judged-or Unhandled n (Some x) e = cc
+judged-or (outcomes.BusFault a) n (Some x) e = cc
+judged-or (outcomes.Diverged at kept wanted) n (Some x) e = cc
+judged-or (Unbuilt r) n (Some x) e = cc
 
-module _ (s after : State) (hits : Point → Option Exit) (r : Report) (bus now : BusView) (insn : Insn) (old new : Sight) (accesses : ArrayVec Made) where
-  made-is : r.accesses ≡ accesses → accesses.items ≡ new.step.made → r.accesses.items ≡ new.step.made
-  made-is e made = ap (λ (v : ArrayVec Made). v.items) e ∙ made
+judged-keeps : (o : Outcome) (n : ℕ) (u : Option Access) (made : List Made) → Keepable o made → Keepable (judged o n u) made
+judged-keeps o n None made k = k
+judged-keeps (Done more retire) n (Some x) made k = tt
+judged-keeps (outcomes.Pending a) n (Some x) made k = k
+judged-keeps (outcomes.Fault f) n (Some x) made k = tt
+judged-keeps (outcomes.Intercept f) n (Some x) made k = tt
+judged-keeps (outcomes.Event kind vector next) n (Some x) made k = tt
+judged-keeps (outcomes.Handoff h) n (Some x) made k = tt
+judged-keeps Unhandled n (Some x) made k = tt
+judged-keeps (outcomes.BusFault a) n (Some x) made k = k
+judged-keeps (outcomes.Diverged at kept wanted) n (Some x) made k = tt
+judged-keeps (Unbuilt r) n (Some x) made k = tt
 
-  pub finished_reports : (f : Finish) (n : ℕ) (b : Bool) → Did s hits bus insn (Ok f) old new → r ≡ record { row = Some insn.row; finished = Some insn.row; elements = 1; accesses = accesses; outcome = Done f.more n } → n ≡ (if b then f.retire + 8 else f.retire) → b ≡ tf s.cpu → after ≡ record { cpu = f.cpu; ram = new.step.work } → accesses.items ≡ new.step.made → now ≡ new.bus → Reports s hits bus r after now
-  finished_reports f n b d told e trap same made bus_is =
-      let row = row_built _ s.cpu _ old new d.row in
-      rw (bus_is, ← d.bus_) (finish-is s after hits r insn old new (Done f.more (retired s.cpu f.retire)) row.0 f row.2 d.fetch row.1 d.start (finished-is r insn.row f.more n f.retire s.cpu b accesses told e trap) same (made-is (ap (λ (x : Report). x.accesses) told) made))
+stood-keeps : (o : Outcome) (old new : Sight) → Stood (why_by o) old new → Keepable o new.step.made
+stood-keeps (Done more retire) old new s = tt
+stood-keeps (outcomes.Pending a) old new s = (s.0.well_formed, (let l = s.0.room_ in omega arith))
+stood-keeps (outcomes.Fault f) old new s = tt
+stood-keeps (outcomes.Intercept f) old new s = tt
+stood-keeps (outcomes.Event kind vector next) old new s = tt
+stood-keeps (outcomes.Handoff h) old new s = tt
+stood-keeps Unhandled old new s = tt
+stood-keeps (outcomes.BusFault a) old new s = (s.0.well_formed, (let l = s.0.room_ in omega arith))
+stood-keeps (outcomes.Diverged at kept wanted) old new s = tt
+stood-keeps (Unbuilt r) old new s = tt
 
-  pub halted_reports : (x : Stop) (outcome : Outcome) → Did s hits bus insn (Err x) old new → r ≡ halted (Some insn.row) outcome accesses → outcome ≡ outcome_of x → after ≡ s → accesses.items ≡ new.step.made → now ≡ new.bus → Reports s hits bus r after now
-  halted_reports x outcome d told e same made bus_is =
-      let row = row_built _ s.cpu _ old new d.row in
-      rw (bus_is, ← d.bus_) (halt-is s after hits r insn old new (outcome_of x) row.0 x row.2 d.fetch row.1 d.start (halted-is r insn.row x outcome accesses told e) same (made-is (ap (λ (x : Report). x.accesses) told) made))
+done-left : (o : Outcome) (made : List Made) (K : Kept) → is_done o ≡ true → left_by o made K ≡ nothing
+done-left (Done more retire) made K e = refl
+done-left (outcomes.Pending a) made K e = cc
+done-left (outcomes.Fault f) made K e = refl
+done-left (outcomes.Intercept f) made K e = refl
+done-left (outcomes.Event kind vector next) made K e = refl
+done-left (outcomes.Handoff h) made K e = refl
+done-left Unhandled made K e = refl
+done-left (outcomes.BusFault a) made K e = cc
+done-left (outcomes.Diverged at kept wanted) made K e = cc
+done-left (Unbuilt r) made K e = refl
 
--- ---- an instruction finishes well
+-- ---- one call
 
-sound-is : (insn : Insn) (cpu : Cpu) (f : Finish) (old new : Sight) (o : Option (Cpu → Tree Finish)) → table insn ≡ o → IsOf cpu insn → Valid cpu → DoesRow o cpu old (Some (Ok f)) new → IsSound f
-sound-is insn cpu f old new None e of_ h d = absurd d
-sound-is insn cpu f old new (Some tree) e of_ h d = gives_of IsSound (tree cpu) f old new (sound_row insn cpu tree e of_ h) d
+module _ (s at : State) (hits : Point → Option Exit) (K : Kept) (b : BusView) (begun new : Sight) (row : Option Row) (o told : Outcome) (draft : Cpu) (ram : List Area) (ok : IsKept K.answers K.asked) (starts : begun ≡ opens s hits K b) (same : at ≡ s) (tried : Tried (step_of at begun.step.hits) begun row o (after_by o at draft ram) new) (judge : told ≡ judged o (length new.step.made) (expected new.kept (length new.step.made))) where
+  -- a call that finishes has reached all of its record, and finishes as its step
+  pub finished_so : is_done told ≡ true → (expected new.kept (length new.step.made) ≡ None) × (told ≡ o)
+  finished_so e = let r = judged-or o _ _ (rw judge at e) in (r.0, judge ∙ r.1)
 
-pub sound_finish : (s : State) (hits : Point → Option Exit) (bus : BusView) (insn : Insn) (f : Finish) (old new : Sight) → Valid s.cpu → Did s hits bus insn (Ok f) old new → IsSound f
-sound_finish s hits bus insn f old new h d = sound-is insn s.cpu f old new (table insn) refl d.of_ h d.row
+  -- one that suspends its step has what the record wants
+  pub keeps_so : Keepable told new.step.made
+  keeps_so = rw judge (judged-keeps o _ _ new.step.made (stood-keeps o begun new tried.moves.stood))
+
+  there : Tried (step_of s hits) (opens s hits K b) row o (after_by o s draft ram) new
+  there =
+      let one : Tried (step_of at hits) (opens s hits K b) row o (after_by o at draft ram) new = subst (λ (v : Sight). Tried (step_of at v.step.hits) v row o (after_by o at draft ram) new) starts tried in
+      subst (λ (x : State). Tried (step_of x hits) (opens s hits K b) row o (after_by o x draft ram) new) same one
+
+  kept-is : new.kept ≡ K
+  kept-is = there.moves.kept_
+
+  undone-stays : (done : Bool) → done ≡ false → (if done then record { cpu = draft; ram = ram } else s) ≡ s
+  undone-stays done e = rw e refl
+
+  states : (if is_done told then record { cpu = draft; ram = ram } else s) ≡ state_by (judged o (length new.step.made) (expected new.kept (length new.step.made))) s (after_by o s draft ram)
+  states = elim (cases_Bool (is_done told)) [
+    | inl t ↦ let f = finished_so t in
+        let d : is_done o ≡ true = ap is_done (sym f.1) ∙ t in
+        let j : is_done (judged o (length new.step.made) (expected new.kept (length new.step.made))) ≡ true = ap is_done (sym judge) ∙ t in
+        rw (t, j, d) refl
+    | inr n ↦ let j : is_done (judged o (length new.step.made) (expected new.kept (length new.step.made))) ≡ false = ap is_done (sym judge) ∙ n in
+        rw (n, j) refl
+  ]
+
+  -- what the call reports
+  pub call_reports : Agrees new.kept.answers new.kept.asked new.step.made → (r : Report) (now : State) (left : Kept) (bus : BusView) → r ≡ told_by row told new.step.made → now ≡ (if is_done told then record { cpu = draft; ram = ram } else s) → left ≡ left_by told new.step.made K → bus ≡ new.bus → Reports (step_of s hits) s K b r now left bus
+  call_reports ag r now left bus tells is keeps bus_is =
+      let agrees : Agrees K.answers K.asked new.step.made = subst (λ (k : Kept). Agrees k.answers k.asked new.step.made) kept-is ag in
+      let u : expected K (length new.step.made) ≡ expected new.kept (length new.step.made) = ap (λ (k : Kept). expected k (length new.step.made)) (sym kept-is) in
+      reports (step_of s hits) s (begins s hits) K b refl ok row (after_by o s draft ram) new agrees o (expected new.kept (length new.step.made)) there u r now left bus
+      (tells ∙ ap (λ x. told_by row x new.step.made) judge)
+      (is ∙ states)
+      (keeps ∙ ap (λ x. left_by x new.step.made K) judge)
+      bus_is
+      (λ e. undone-stays (is_done o) e)
+
+  -- one that finishes
+  pub call_finished : is_done told ≡ true → Agrees new.kept.answers new.kept.asked new.step.made → (r : Report) (now : State) (left : Kept) (bus : BusView) → r ≡ told_by row told new.step.made → now ≡ record { cpu = draft; ram = ram } → left ≡ nothing → bus ≡ new.bus → Reports (step_of s hits) s K b r now left bus
+  call_finished done ag r now left bus tells is keeps bus_is =
+      let state : record { cpu = draft; ram = ram } ≡ (if is_done told then record { cpu = draft; ram = ram } else s) = rw done refl in
+      call_reports ag r now left bus tells (is ∙ state) (keeps ∙ sym (done-left told new.step.made K done)) bus_is
+
+  -- one that doesn't
+  pub call_ended : is_done told ≡ false → Agrees new.kept.answers new.kept.asked new.step.made → (r : Report) (now : State) (left : Kept) (bus : BusView) → r ≡ told_by row told new.step.made → now ≡ s → left ≡ left_by told new.step.made new.kept → bus ≡ new.bus → Reports (step_of s hits) s K b r now left bus
+  call_ended undone ag r now left bus tells is keeps bus_is =
+      let state : s ≡ (if is_done told then record { cpu = draft; ram = ram } else s) = sym (undone-stays (is_done told) undone) in
+      call_reports ag r now left bus tells (is ∙ state) (keeps ∙ ap (left_by told new.step.made) kept-is) bus_is

@@ -1,4 +1,3 @@
-pub mod FetchLaws
 pub mod Valid
 pub mod RowLaws
 pub mod CallLaws

@@ -1,26 +1,24 @@
-use Rattle.std.specs.Prelude.{ℕ, ◌+◌, ◌≡◌, ◌≤◌, List, [], length, All, Bool, true, false, Option, Some, None, Result, Ok, Err}
-use Rattle.xe_base.specs.Access.{IsWellMade}
+use Rattle.std.specs.Prelude.{ℕ, ◌≤◌, List, length, Option, Result, Ok, Err, if◌then◌else◌}
+use Rattle.xe_base.specs.Access.{IsWellFormed}
+use Rattle.xe_base.specs.Ram.{Area}
 use Rattle.xe_base.specs.State.{code_size_of}
+use Rattle.xe_base.specs.declared.access.Made.{Made}
 use Rattle.xe_base.specs.declared.cpu.CodeSize.{CodeSize}
+use Rattle.xe_base.specs.declared.cpu.Cpu.{Cpu}
 use Rattle.xe_icpt.specs.declared.exit.Exit.{Exit}
 use Rattle.xe_icpt.specs.declared.point.Point.{Point}
 use Rattle.xe_opmap.specs.Encoding.{decode_part, finished}
 use Rattle.xe_opmap.specs.declared.insn.Decoded.{Decoded}
 use Rattle.xe_opmap.specs.declared.insn.Decoded.TheVariants.{Insn as Spelled, Invalid, Outside, More}
 use Rattle.xe_opmap.specs.declared.insn.Insn.{Insn}
-use Rattle.xe_ctx.specs.Bus.{BusView}
-use Rattle.xe_ctx.specs.Fetch.{Avail, avail}
+use Rattle.xe_ctx.specs.Ending.{Ending, stop_of}
+use Rattle.xe_ctx.specs.Fetch.{avail}
 use Rattle.xe_ctx.specs.State.{State}
-use Rattle.xe_ctx.specs.Step.{Stepped, step, reported, outcome_of, undefined_opcode, FollowsTape}
-use Rattle.xe_ctx.specs.Supply.{Supply, answers_alone, answers, from_tape}
-use Rattle.xe_ctx.specs.Tape.{Tape, Key}
-use Rattle.xe_ctx.specs.declared.ctx.Ctx.{Ctx}
+use Rattle.xe_ctx.specs.Step.{Stepped, step, outcome_of, undefined_opcode, is_done}
+use Rattle.xe_ctx.specs.Supply.{Supply}
 use Rattle.xe_ctx.specs.declared.report.Outcome.{Outcome}
-use Rattle.xe_ctx.specs.declared.report.Outcome.TheVariants.{Done, Fault, Unhandled}
-use Rattle.xe_ctx.specs.declared.report.Report.{Report}
-use Rattle.xe_ctx.specs.declared.stop.Stop.{Stop}
+use Rattle.xe_ctx.specs.declared.report.Outcome.TheVariants.{Pending, BusFault, Unhandled}
 use Rattle.xe_core.specs.Rows.{table}
-use Rattle.xe_core.specs.declared.fetch.Code.{Code}
 
 -- what bytes begin with, by the opcode maps
 abbrev pub decoding : CodeSize → List ℕ → Decoded
@@ -30,46 +28,26 @@ decoding size bytes = finished (decode_part size bytes)
 abbrev pub step_of : State → (Point → Option Exit) → Supply → Stepped
 step_of = step table decoding
 
--- one step with the answers of a script
-abbrev pub one_call : State → (Point → Option Exit) → Tape → Stepped
-one_call s hits t = step_of s hits (from_tape t)
-
--- what a call does where the bus tells its script
-abbrev pub Follows : (Point → Option Exit) → State → Tape → Report → State → Option Tape → Type 0
-Follows = FollowsTape table decoding
-
--- a step finished
-abbrev pub is_done : Outcome → Bool
-is_done (Done more retire) = true
-is_done _ = false
-
 -- ---- the instruction at CS:RIP
 
--- the bytes that were read, and why the next one can't be had
-abbrev pub avail_of : Code → Avail
-avail_of c = record { bytes = c.bytes.items; reason = c.reason }
-
--- the state of the machine that a step works on
-abbrev pub state_in : {B I : Type 0} → Ctx B I → State
-state_in ctx = record { cpu = ctx.m.now.cpu; ram = ctx.m.now.mem }
-
 -- the instruction, or how the step ends without one
-abbrev pub decided : Stop → Decoded → Result Insn Outcome
+abbrev pub decided : Ending → Decoded → Result Insn Outcome
 decided reason (Spelled insn) = Ok insn
-decided reason (Invalid n) = Err (Fault undefined_opcode)
+decided reason (Invalid n) = Err (outcome_of (stop_of undefined_opcode))
 decided reason Outside = Err Unhandled
-decided reason More = Err (outcome_of reason)
+decided reason More = Err (outcome_of (stop_of reason))
 
 unfoldable pub fetched : State → Result Insn Outcome
 fetched s = decided (avail s).reason (decoding (code_size_of s.cpu) (avail s).bytes)
 
--- ---- what a call leaves
+-- ---- a step that was tried
 
--- the report of one step from this state, with these intercepts, and the machine's state and the bus afterwards
-pub record Reports (s : State) (hits : Point → Option Exit) (old : BusView) (r : Report) (after : State) (new : BusView) : Type 0 where
-  pub step_ : step_of s hits (answers_alone (answers r.accesses.items)) ≡ reported r after (answers_alone [])
-  pub told : (t : Tape) → old.tape ≡ Some t → Follows hits s t r after new.tape
-  pub untold : old.tape ≡ None → new.tape ≡ None
-  pub room_ : old.room ≤ new.room + length r.accesses.items
-  pub spare_ : (k : Key) → new.spare k ≡ old.spare k
-  pub well_made : All IsWellMade r.accesses.items
+-- the state that it comes to: its registers and its RAM where it finished, else that before
+abbrev pub after_by : Outcome → State → Cpu → List Area → State
+after_by outcome before cpu ram = if is_done outcome then record { cpu = cpu; ram = ram } else before
+
+-- what a step that is given up owes to its record: the access that it stands at is well formed, and there is room for those made
+abbrev pub Keepable : Outcome → List Made → Type 0
+Keepable (Pending a) made = IsWellFormed a × (length made ≤ 255)
+Keepable (BusFault a) made = IsWellFormed a × (length made ≤ 255)
+Keepable _ made = Unit {0}

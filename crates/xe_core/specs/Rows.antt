@@ -1,4 +1,4 @@
-use Rattle.std.specs.Prelude.{ℕ, ◌≡◌, ◌%◌, ◌^◌, ◌==◌, true, false, if◌then◌else◌, Option, Some, None, Result}
+use Rattle.std.specs.Prelude.{ℕ, ◌≡◌, ◌%◌, ◌^◌, ◌==◌, true, false, Bool, if◌then◌else◌, Option, Some, None, Result}
 use Rattle.xe_base.specs.Access.{number_of}
 use Rattle.xe_base.specs.Registers.{next_rip, with_register}
 use Rattle.xe_base.specs.declared.access.Access.{Access}
@@ -12,9 +12,11 @@ use Rattle.xe_opmap.specs.declared.row.Row.TheVariants.{In, Hlt}
 use Rattle.xe_arith.specs.Rows.{is_row, row_of}
 use Rattle.xe_ctx.specs.Finishes.{EachGives}
 use Rattle.xe_ctx.specs.Is.{Sight, Is}
-use Rattle.xe_ctx.specs.Operand.{ends}
+use Rattle.xe_ctx.specs.Operand.{ax, ends}
+use Rattle.xe_ctx.specs.Runs.{finished}
 use Rattle.xe_ctx.specs.Step.{Table}
 use Rattle.xe_ctx.specs.Tree.{Tree, ◌>>=◌, give, device, point}
+use Rattle.xe_ctx.specs.declared.stop.End.{End}
 use Rattle.xe_ctx.specs.declared.stop.Finish.{Finish}
 use Rattle.xe_ctx.specs.declared.stop.Stop.{Stop}
 
@@ -33,7 +35,7 @@ in_row insn cpu = do
   let port = insn.imm % 2 ^ 8
   _ ← point (input_point insn cpu port)
   a ← device (port_read port)
-  ends insn (with_register cpu 1 false 0 (number_of a))
+  ends insn (with_register cpu 1 false ax (number_of a))
 
 -- HLT (SDM volume 2), at level 0, where real mode always is
 abbrev pub hlt_row : Insn → Cpu → Tree Finish
@@ -41,23 +43,32 @@ hlt_row insn cpu = do
   _ ← point AtHlt
   give (record { cpu = record cpu { rip = next_rip cpu insn.len }; more = false; retire = 4 })
 
+-- an IN of a byte from the port of its immediate: E4
+abbrev pub is_byte_from_immediate_port : ℕ → Bool
+is_byte_from_immediate_port opcode = opcode == 0xE4
+
 -- the rows that stand here
-abbrev pub row_at : Row → Insn → Option (Cpu → Tree Finish)
-row_at In insn = if insn.opcode == 0xE4 then Some (in_row insn) else None
-row_at Hlt insn = Some (hlt_row insn)
-row_at _ insn = None
+abbrev pub row_at : Row → Insn → Cpu → Option (Tree Finish)
+row_at In insn cpu = if is_byte_from_immediate_port insn.opcode then Some (in_row insn cpu) else None
+row_at Hlt insn cpu = Some (hlt_row insn cpu)
+row_at _ insn cpu = None
 
 -- what an instruction asks for; none where its row or its form isn't built
 abbrev pub table : Table
-table insn = if is_row insn.row then Some (row_of insn) else row_at insn.row insn
+table insn cpu = if is_row insn.row then Some (row_of insn cpu) else row_at insn.row insn cpu
+
+-- an end with its draft of the registers, where the instruction is built
+abbrev pub if_built : Option (Result End Stop) → Cpu → Option (Result Finish Stop)
+if_built (Some res) cpu = Some (finished res cpu)
+if_built None cpu = None
 
 -- what doing an instruction says of its definition: none is done exactly where none is built
-abbrev pub DoesRow : Option (Cpu → Tree Finish) → Cpu → Sight → Option (Result Finish Stop) → Sight → Type 0
-DoesRow (Some tree) cpu old (Some res) new = Is (tree cpu) old res new
-DoesRow None cpu old None new = new ≡ old
-DoesRow _ cpu old _ new = ⊥
+abbrev pub DoesRow : Option (Tree Finish) → Sight → Option (Result Finish Stop) → Sight → Type 0
+DoesRow (Some tree) old (Some res) new = Is tree old res new
+DoesRow None old None new = new ≡ old
+DoesRow _ old _ new = ⊥
 
 -- this holds of each finish of an instruction that is built
-abbrev pub EachFinish : (Finish → Type 0) → Option (Cpu → Tree Finish) → Cpu → Type 0
-EachFinish P (Some tree) cpu = EachGives P (tree cpu)
-EachFinish P None cpu = Unit {0}
+abbrev pub EachFinish : (Finish → Type 0) → Option (Tree Finish) → Type 0
+EachFinish P (Some tree) = EachGives P tree
+EachFinish P None = Unit {0}

@@ -1,22 +1,25 @@
 //! One call of the emulator.
 
-ghost use Rattle.xe_ctx.specs.declared.report.Outcome.TheVariants.{Done};
-ghost use Rattle.std.specs.Prelude.{◌≡◌, false, [], ◌≤◌, ◌<◌, ◌+◌, ℕ, None, Some, length, All, if◌then◌else◌};
+ghost use Rattle.std.specs.Prelude.{◌≡◌, ◌≤◌, ◌<◌, ◌+◌, ◌-◌, [], ℕ, true, false, None, List, length, All, if◌then◌else◌};
 ghost use Rattle.xe_base.specs.Access.{IsWellMade};
+ghost use Rattle.xe_base.specs.declared.access.Made.{Made};
 ghost use Rattle.xe_base.specs.State.{Valid};
+ghost use Rattle.xe_icpt.specs.declared.exit.Exit.{Exit};
 ghost use Rattle.xe_ctx.specs.Bus.{HasRoom};
+ghost use Rattle.xe_ctx.specs.Call.{Reports, FollowsTape, Tells, Counted, Tried, StandsEach, Stands, Played, divergence, Fits, judged, told_by, left_by, is_plain};
+ghost use Rattle.xe_ctx.specs.Kept.{nothing};
+ghost use Rattle.xe_ctx.specs.Recorded.{kept_of};
 ghost use Rattle.xe_ctx.specs.Machine.{state_of};
-ghost use Rattle.xe_ctx.specs.Step.{reported, tf};
-ghost use Rattle.xe_ctx.specs.Supply.{answers_alone, answers};
+ghost use Rattle.xe_ctx.specs.Part.{begins};
+ghost use Rattle.xe_ctx.specs.Step.{tf, is_done, is_diverged};
 ghost use Rattle.xe_ctx.specs.Tape.{Tape, Key};
-ghost use Rattle.xe_ctx.specs.View.{view};
-ghost use Rattle.xe_core.specs.Emulate.{step_of, Follows, Reports, is_done};
+ghost use Rattle.xe_ctx.specs.View.{view, cpu_of, state_in, kept_in, made_in, work_of, code_of, SameHandles, IsOpen, accesses_left, bytes_left, unused, kept_after, CanKeep};
+ghost use Rattle.xe_core.specs.Emulate.{step_of, after_by, Keepable};
 
 use crate::fetch::{instruction, outcome_of};
 use crate::rows::exec;
-use arrayvec::ArrayVec;
-use xe_base::{Cpu, Made};
-use xe_ctx::{Bus, Ctx, Machine, Outcome, Report};
+use xe_base::{Cpu, Fault, INVALID_OPCODE};
+use xe_ctx::{Bus, Ctx, Diverged, End, Machine, Outcome, Record, Report, Stop};
 use xe_icpt::Intercepts;
 use xe_opmap::Row;
 
@@ -35,122 +38,245 @@ fn retired(retire: u8, is_trapped: bool) -> u8
     if is_trapped { retire + 8 } else { retire }
 }
 
-/// The accesses that a step has made.
-fn accesses_of<B: Bus, I: Intercepts>(ctx: &Ctx<B, I>) -> ArrayVec<Made, 256>
-    ensures { result.items ≡ (view B.sight I.hits ctx.now).step.made }
+/// Whether the step ended as its definition has it, and not at a device or at the record.
+fn is_plain(outcome: &Outcome) -> bool
+    ensures { result ≡ is_plain outcome.now }
 {
-    let mut accesses = ArrayVec::new();
-    for made in ctx.made() {
-        accesses.push(*made);
-    }
-    accesses
-}
-
-/// The report of a step that finished.
-fn finished<B: Bus, I: Intercepts>(row: Row, more: bool, retire: u8, ctx: &Ctx<B, I>) -> Report
-    ensures { result ≡ record { row = Some row; finished = Some row; elements = 1; accesses = record { items = (view B.sight I.hits ctx.now).step.made }; outcome = Done more retire } }
-{
-    Report {
-        row: Some(row),
-        finished: Some(row),
-        elements: 1,
-        accesses: accesses_of(ctx),
-        outcome: Outcome::Done { more, retire },
+    match outcome {
+        Outcome::Pending(_) | Outcome::BusFault(_) | Outcome::Diverged { .. } => false,
+        Outcome::Done { .. }
+        | Outcome::Fault(_)
+        | Outcome::Intercept(_)
+        | Outcome::Event { .. }
+        | Outcome::Handoff(_)
+        | Outcome::Unhandled
+        | Outcome::Unbuilt(_) => true,
     }
 }
 
-/// The report of a step that its instruction didn't finish.
-fn stopped<B: Bus, I: Intercepts>(row: Row, outcome: Outcome, ctx: &Ctx<B, I>) -> Report
-    ensures { result ≡ record { row = Some row; finished = None; elements = 0; accesses = record { items = (view B.sight I.hits ctx.now).step.made }; outcome = outcome } }
+/// Whether the step finished.
+fn is_done(outcome: &Outcome) -> bool
+    ensures { result ≡ is_done outcome.now }
 {
-    Report {
-        row: Some(row),
-        finished: None,
-        elements: 0,
-        accesses: accesses_of(ctx),
-        outcome,
+    match outcome {
+        Outcome::Done { .. } => true,
+        Outcome::Pending(_)
+        | Outcome::Fault(_)
+        | Outcome::Intercept(_)
+        | Outcome::Event { .. }
+        | Outcome::Handoff(_)
+        | Outcome::Unhandled
+        | Outcome::BusFault(_)
+        | Outcome::Diverged { .. }
+        | Outcome::Unbuilt(_) => false,
     }
 }
 
-/// The report of a step that ended before its instruction was begun, and so made no access.
-#[inline(never)]
-fn unbegun(row: Option<Row>, outcome: Outcome) -> Report
-    ensures { result ≡ record { row = row; finished = None; elements = 0; accesses = record { items = [] }; outcome = outcome } }
+/// Tries one step: its instruction, and how it ended. Where it finished, the draft has the registers.
+fn attempt<B: Bus, I: Intercepts>(ctx: &mut Ctx<B, I>, cpu: &mut Cpu) -> (Option<Row>, Outcome)
+    requires open { IsOpen B.sight ctx.old }
+    requires none { code_of ctx.old ≡ [] }
+    requires starts { (view B.sight I.hits ctx.old).step ≡ begins (state_in ctx.old) (view B.sight I.hits ctx.old).step.hits }
+    requires draft { cpu.old ≡ cpu_of ctx.old }
+    requires valid { Valid cpu.old }
+    requires accesses { accesses_left ctx.old ≡ 256 }
+    requires bytes { bytes_left ctx.old ≡ 1024 }
+    ensures tried { Tried (step_of (state_in ctx.old) (view B.sight I.hits ctx.old).step.hits) (view B.sight I.hits ctx.old) result.0 result.1 (after_by result.1 (state_in ctx.old) cpu.new (work_of ctx.new)) (view B.sight I.hits ctx.new) }
+    ensures same { SameHandles ctx.old ctx.new }
+    ensures open { IsOpen B.sight ctx.new }
+    ensures valid { is_done result.1 ≡ true → Valid cpu.new }
 {
-    Report {
-        row,
-        finished: None,
-        elements: 0,
-        accesses: ArrayVec::new(),
-        outcome,
-    }
-}
-
-/// One step of the machine, with all that its report says in one record.
-fn one_step<B: Bus, I: Intercepts>(m: &mut Machine, icpt: &I, bus: &mut B) -> Report
-    requires { HasRoom (B.sight bus.old) 256 }
-    ensures reports { Reports (state_of m.old) (I.hits icpt.now) (B.sight bus.old) result (state_of m.new) (B.sight bus.new) }
-    ensures elements { result.elements ≡ (if is_done result.outcome then 1 else 0) }
-    ensures finished { result.finished ≡ (if is_done result.outcome then result.row else None) }
-    ensures stays { is_done result.outcome ≡ false → state_of m.new ≡ state_of m.old }
-{
-    let is_trapped = is_trapped(m.cpu());
-    let mut ctx = Ctx::begin(m, icpt, bus);
-    let insn = match instruction(&mut ctx) {
+    let is_trapped = is_trapped(cpu);
+    let insn = match instruction(ctx) {
         Ok(insn) => insn,
-        Err(outcome) => {
-            ctx.end();
-            return unbegun(None, outcome);
-        }
+        Err(outcome) => return (None, outcome),
     };
     ctx.accept(insn.len);
-    match exec(&insn, &mut ctx) {
-        None => {
-            ctx.end();
-            unbegun(Some(insn.row), Outcome::Unbuilt(Some(insn.row)))
+    let row = Some(insn.row);
+    match exec(&insn, ctx, cpu) {
+        None => (row, Outcome::Unbuilt(row)),
+        Some(Ok(End { more, retire })) => {
+            let retire = retired(retire, is_trapped);
+            (row, Outcome::Done { more, retire })
         }
-        Some(Ok(finish)) => {
-            let retire = retired(finish.retire, is_trapped);
-            let report = finished(insn.row, finish.more, retire, &ctx);
-            ctx.commit(finish.cpu);
-            report
-        }
-        Some(Err(stop)) => {
-            let report = stopped(insn.row, outcome_of(stop), &ctx);
-            ctx.end();
-            report
-        }
+        Some(Err(stop)) => (row, outcome_of(stop)),
     }
 }
 
-/// Runs one step of the machine: the instruction at CS:RIP, with the accesses that it makes.
+/// How the call ends: as the step did; or, where the step came to an end of its own and hasn't reached all
+/// that the record has, with that.
+fn judged<B: Bus, I: Intercepts>(ctx: &Ctx<B, I>, outcome: Outcome) -> Outcome
+    requires { IsOpen B.sight ctx.now }
+    ensures { result ≡ judged outcome (length (made_in ctx.now)) (unused (kept_in ctx.now) (made_in ctx.now)) }
+{
+    match ctx.unused() {
+        Some((at, kept)) if is_plain(&outcome) => Outcome::Diverged {
+            at,
+            kept,
+            wanted: None,
+        },
+        _ => outcome,
+    }
+}
+
+/// Tells of the call: the accesses of its step, kept ones included; none where the record belongs to
+/// another step.
+fn tell<B: Bus, I: Intercepts>(
+    ctx: &Ctx<B, I>,
+    row: Option<Row>,
+    outcome: Outcome,
+    report: &mut Report,
+)
+    requires { IsOpen B.sight ctx.now }
+    ensures { report.new ≡ told_by row outcome (made_in ctx.now) }
+{
+    match outcome {
+        Outcome::Done { .. } => report.tell(row, row, 1, ctx.made(), outcome),
+        Outcome::Diverged { .. } => report.tell(row, None, 0, &[], outcome),
+        _ => report.tell(row, None, 0, ctx.made(), outcome),
+    }
+}
+
+/// The stop by which a step is given up. One that the table doesn't have, or that isn't built, leaves
+/// nothing in the record, as an exception does.
+fn stop_by(outcome: &Outcome) -> Stop
+    ensures kept { kept_after result ≡ left_by outcome.now }
+    ensures keeps { (made : List Made) → Keepable outcome.now made → CanKeep result made }
+{
+    match *outcome {
+        Outcome::Pending(access) => Stop::Pending(access),
+        Outcome::BusFault(access) => Stop::BusFault(access),
+        Outcome::Diverged { at, kept, wanted } => Stop::Diverged(Diverged { at, kept, wanted }),
+        Outcome::Done { .. }
+        | Outcome::Fault(_)
+        | Outcome::Intercept(_)
+        | Outcome::Event { .. }
+        | Outcome::Handoff(_)
+        | Outcome::Unhandled
+        | Outcome::Unbuilt(_) => Stop::Fault(Fault::plain(INVALID_OPCODE)),
+    }
+}
+
+/// One call, with all that it says in one record.
+fn one_call<B: Bus, I: Intercepts>(
+    m: &mut Machine,
+    icpt: &I,
+    bus: &mut B,
+    rec: &mut Record,
+    report: &mut Report,
+)
+    requires { HasRoom (B.sight bus.old) (256 - length (kept_of rec.old).answers) }
+    ensures reports { Reports (step_of (state_of m.old) (I.hits icpt.now)) (state_of m.old) (kept_of rec.old) (B.sight bus.old) report.new (state_of m.new) (kept_of rec.new) (B.sight bus.new) }
+{
+    let mut ctx = Ctx::begin(m, icpt, bus, rec);
+    let mut cpu = *ctx.cpu();
+    let (row, outcome) = attempt(&mut ctx, &mut cpu);
+    let outcome = judged(&ctx, outcome);
+    tell(&ctx, row, outcome, report);
+    if is_done(&outcome) {
+        ctx.commit(cpu);
+    } else {
+        let stop = stop_by(&outcome);
+        ctx.end(&stop);
+    }
+}
+
+/// Runs one step of the machine: the instruction at CS:RIP, with the accesses that it makes; and tells
+/// it in a report of the caller's, which can be used again from call to call.
+///
+/// The step takes its first answers from the record, and asks the bus for the others, the record's asked
+/// access first; so no device that has answered is asked twice.
 ///
 /// - `Done` comes where the instruction finished. Its registers and its stores have taken effect;
 ///   `retire` has 8 more where TF was 1 before.
+/// - `Pending` comes where a device isn't ready yet, and `BusFault` where one failed. The record then
+///   keeps the answers so far, and the access that was asked; the next call goes on from there.
+/// - `Diverged` comes exactly where the record belongs to another step: at the first place at which the
+///   step's access isn't the one that the record has there. Nothing changes.
 /// - `Fault`, `Intercept`, `Event` and `Handoff` come where the instruction ended so; `Fault` and
 ///   `Handoff` also where a byte that it needs can't be had, and #UD (vector 6, without an error
 ///   code) where its encoding is invalid: in these cases the report has no row.
 /// - `Unhandled` comes where the instruction table doesn't have the encoding. There is no row.
 /// - `Unbuilt` comes, with the row, where the table has it and its row, or its form, isn't built.
 ///
-/// The bytes of an instruction are needed one after another until it is decided, at most 15 (SDM
-/// volume 2, "Instruction Format"); the first that can't be had decides.
-pub fn emulate<B: Bus, I: Intercepts>(m: &mut Machine, icpt: &I, bus: &mut B) -> Report
-    requires { HasRoom (B.sight bus.old) 256 }
-    // With the answers of the accesses that the report names, the step of the definition comes to the report's end, and the
-    // machine is its state.
-    ensures step { step_of (state_of m.old) (I.hits icpt.now) (answers_alone (answers result.accesses.items)) ≡ reported result (state_of m.new) (answers_alone []) }
-    // Where the bus tells its script, the whole is the step with the answers of the script, which has logged each access once.
-    ensures told { (t : Tape) → (B.sight bus.old).tape ≡ Some t → Follows (I.hits icpt.now) (state_of m.old) t result (state_of m.new) (B.sight bus.new).tape }
+/// At every end but `Done` the machine is as it was. The bytes of an instruction are needed one after
+/// another until it is decided, at most 15 (SDM volume 2, "Instruction Format"); the first that can't be had
+/// decides. For now a call runs one step: `batch` is 1.
+pub fn emulate_into<B: Bus, I: Intercepts>(
+    m: &mut Machine,
+    icpt: &I,
+    bus: &mut B,
+    rec: &mut Record,
+    batch: u32,
+    report: &mut Report,
+)
+    requires batch { batch ≡ 1 }
+    // Where the bus tells its script, its room and the answers that the record keeps are together at least 256.
+    requires room { HasRoom (B.sight bus.old) (256 - length (kept_of rec.old).answers) }
+    // Over any bus: where the record belongs to another step, that is told, with the place; else the record's answers come first among
+    // those of the report's accesses, and with these answers the step of the definition comes to the report's end, state and record.
+    ensures tells { Tells (divergence (step_of (state_of m.old) (I.hits icpt.now)) (kept_of rec.old)) (step_of (state_of m.old) (I.hits icpt.now)) (state_of m.old) (kept_of rec.old) report.new (state_of m.new) (kept_of rec.new) }
+    // Where the bus tells its script, the whole is one call of the definition over it, and the log has grown by exactly the accesses
+    // that weren't kept.
+    ensures told { (t : Tape) → (B.sight bus.old).tape ≡ Some t → FollowsTape (step_of (state_of m.old) (I.hits icpt.now)) (state_of m.old) (kept_of rec.old) t report.new (state_of m.new) (kept_of rec.new) (B.sight bus.new).tape }
     ensures untold { (B.sight bus.old).tape ≡ None → (B.sight bus.new).tape ≡ None }
-    ensures room { (B.sight bus.old).room ≤ (B.sight bus.new).room + length result.accesses.items }
+    ensures room { (B.sight bus.old).room ≤ (B.sight bus.new).room + (length report.new.accesses.items - length (kept_of rec.old).answers) }
     ensures spare { (k : Key) → (B.sight bus.new).spare k ≡ (B.sight bus.old).spare k }
-    ensures well_made { All IsWellMade result.accesses.items }
-    ensures elements { result.elements ≡ (if is_done result.outcome then 1 else 0) }
-    ensures finished { result.finished ≡ (if is_done result.outcome then result.row else None) }
+    ensures unready { (B.sight bus.old).unready ≤ (B.sight bus.new).unready }
+    ensures faults { (B.sight bus.old).faults ≤ (B.sight bus.new).faults }
+    // Pending comes only where the count of devices that weren't ready rose, and BusFault only where that of failures did.
+    ensures counted { Counted report.new.outcome (B.sight bus.old) (B.sight bus.new) }
+    ensures well_made { All IsWellMade report.new.accesses.items }
     // At every other end than Done the machine is as it was.
+    ensures stays { is_done report.new.outcome ≡ false → state_of m.new ≡ state_of m.old }
+    ensures valid { Valid (state_of m.new).cpu }
+    // The record that is left belongs to the step that comes next, unless it belonged to another one before.
+    // Each of the accesses is the one that the step stands at where it has the answers before it alone.
+    ensures asks { is_diverged report.new.outcome ≡ false → StandsEach (step_of (state_of m.old) (I.hits icpt.now)) report.new.row [] report.new.accesses.items }
+    // It stands at the access of Pending and BusFault, with the answers of those before.
+    ensures stands { Stands report.new.outcome (step_of (state_of m.old) (I.hits icpt.now)) report.new.row report.new.accesses.items }
+    // Diverged comes only where the record belongs to another step.
+    ensures fitting { Fits (step_of (state_of m.old) (I.hits icpt.now)) (kept_of rec.old) → is_diverged report.new.outcome ≡ false }
+    // A bus that tells its script gave, behind the kept answers, what the script gives.
+    ensures plays { (t : Tape) → (B.sight bus.old).tape ≡ Some t → is_diverged report.new.outcome ≡ false → Played (kept_of rec.old) t report.new (B.sight bus.new).tape }
+    ensures fits { is_diverged report.new.outcome ≡ false → Fits (step_of (state_of m.new) (I.hits icpt.now)) (kept_of rec.new) }
+{
+    one_call(m, icpt, bus, rec, report)
+}
+
+/// Runs one step as [`emulate_into`] does, and makes its report anew.
+#[inline(always)]
+pub fn emulate<B: Bus, I: Intercepts>(
+    m: &mut Machine,
+    icpt: &I,
+    bus: &mut B,
+    rec: &mut Record,
+    batch: u32,
+) -> Report
+    requires batch { batch ≡ 1 }
+    requires room { HasRoom (B.sight bus.old) (256 - length (kept_of rec.old).answers) }
+    ensures tells { Tells (divergence (step_of (state_of m.old) (I.hits icpt.now)) (kept_of rec.old)) (step_of (state_of m.old) (I.hits icpt.now)) (state_of m.old) (kept_of rec.old) result (state_of m.new) (kept_of rec.new) }
+    ensures told { (t : Tape) → (B.sight bus.old).tape ≡ Some t → FollowsTape (step_of (state_of m.old) (I.hits icpt.now)) (state_of m.old) (kept_of rec.old) t result (state_of m.new) (kept_of rec.new) (B.sight bus.new).tape }
+    ensures untold { (B.sight bus.old).tape ≡ None → (B.sight bus.new).tape ≡ None }
+    ensures room { (B.sight bus.old).room ≤ (B.sight bus.new).room + (length result.accesses.items - length (kept_of rec.old).answers) }
+    ensures spare { (k : Key) → (B.sight bus.new).spare k ≡ (B.sight bus.old).spare k }
+    ensures unready { (B.sight bus.old).unready ≤ (B.sight bus.new).unready }
+    ensures faults { (B.sight bus.old).faults ≤ (B.sight bus.new).faults }
+    ensures counted { Counted result.outcome (B.sight bus.old) (B.sight bus.new) }
+    ensures well_made { All IsWellMade result.accesses.items }
     ensures stays { is_done result.outcome ≡ false → state_of m.new ≡ state_of m.old }
     ensures valid { Valid (state_of m.new).cpu }
+    // Each of the accesses is the one that the step stands at where it has the answers before it alone.
+    ensures asks { is_diverged result.outcome ≡ false → StandsEach (step_of (state_of m.old) (I.hits icpt.now)) result.row [] result.accesses.items }
+    // It stands at the access of Pending and BusFault, with the answers of those before.
+    ensures stands { Stands result.outcome (step_of (state_of m.old) (I.hits icpt.now)) result.row result.accesses.items }
+    // Diverged comes only where the record belongs to another step.
+    ensures fitting { Fits (step_of (state_of m.old) (I.hits icpt.now)) (kept_of rec.old) → is_diverged result.outcome ≡ false }
+    // A bus that tells its script gave, behind the kept answers, what the script gives.
+    ensures plays { (t : Tape) → (B.sight bus.old).tape ≡ Some t → is_diverged result.outcome ≡ false → Played (kept_of rec.old) t result (B.sight bus.new).tape }
+    ensures fits { is_diverged result.outcome ≡ false → Fits (step_of (state_of m.new) (I.hits icpt.now)) (kept_of rec.new) }
 {
-    one_step(m, icpt, bus)
+    let mut report = Report::new();
+    emulate_into(m, icpt, bus, rec, batch, &mut report);
+    report
 }

@@ -11,7 +11,7 @@ ghost use Rattle.xe_opmap.specs.declared.insn.Insn.{Insn};
 /// Whatever the devices answer, an instruction finishes with registers in a valid state, where it
 /// began with such.
 pub fn rows_keep_the_state_valid()
-    ensures { (insn : Insn) (cpu : Cpu) → IsOf cpu insn → Valid cpu → EachFinish IsSound (table insn) cpu }
+    ensures { (insn : Insn) (cpu : Cpu) → IsOf cpu insn → Valid cpu → EachFinish IsSound (table insn cpu) }
 {}
 
 /// The definitions compute: MOV, IN and HLT, as a scripted keyboard answers.

@@ -6,7 +6,7 @@ mod fetch;
 pub mod laws;
 mod rows;
 
-pub use call::emulate;
+pub use call::{emulate, emulate_into};
 
 #[cfg(test)]
 mod tests;

@@ -1,11 +1,11 @@
 //! A few steps of a machine, through the public call.
 
-use crate::emulate;
+use crate::{emulate, emulate_into};
 use std::alloc::Global;
 use std::process::Abort;
 use std::test::Fail;
-use xe_base::{Access, Answer, Cpu, Fault};
-use xe_ctx::{Bus, Machine, Outcome};
+use xe_base::{Access, Answer, Cpu, Fault, Space};
+use xe_ctx::{Bus, Machine, Outcome, Record, Reply, Report};
 use xe_icpt::NoHits;
 use xe_mem::{GuestMem, Region};
 use xe_opmap::Row;
@@ -17,11 +17,11 @@ struct Nothing;
 impl Bus for Nothing {
     ghost use Rattle.std.specs.Prelude.{None};
 
-    ghost sight = { λ _. record { tape = None; room = 0; spare = λ _. 0 } };
+    ghost sight = { λ _. record { tape = None; room = 0; spare = λ _. 0; unready = 0; faults = 0 } };
 
     #[tactic(auto, using(crate::proofs::TestLaws::zero_fits))]
-    fn access(&mut self, _a: Access) -> Answer {
-        Answer::Val(0)
+    fn access(&mut self, _a: Access) -> Reply {
+        Reply::Ready(Answer::Val(0))
     }
 }
 
@@ -44,7 +44,8 @@ fn steps_end_as_their_instructions_say(rt: HostRuntime) {
     let mut cpu = Cpu::reset();
     cpu.rip = 0x100;
     assert!(rt; m.set_cpu(cpu).is_ok());
-    let report = emulate(&mut m, &NoHits, &mut Nothing);
+    let mut rec = Record::new();
+    let report = emulate(&mut m, &NoHits, &mut Nothing, &mut rec, 1);
     assert!(rt; report.row == Some(Row::In));
     assert!(rt; report.accesses.len() == 1);
     assert!(rt; m.cpu().rip == 0x102);
@@ -52,9 +53,9 @@ fn steps_end_as_their_instructions_say(rt: HostRuntime) {
         more: false,
         retire: 4,
     };
-    assert!(rt; emulate(&mut m, &NoHits, &mut Nothing).outcome == halted);
+    assert!(rt; emulate(&mut m, &NoHits, &mut Nothing, &mut rec, 1).outcome == halted);
     let unbuilt = Outcome::Unbuilt(Some(Row::Pushseg));
-    assert!(rt; emulate(&mut m, &NoHits, &mut Nothing).outcome == unbuilt);
+    assert!(rt; emulate(&mut m, &NoHits, &mut Nothing, &mut rec, 1).outcome == unbuilt);
     cpu.rip = 0x200;
     assert!(rt; m.set_cpu(cpu).is_ok());
     let undefined = Outcome::Fault(Fault {
@@ -62,6 +63,47 @@ fn steps_end_as_their_instructions_say(rt: HostRuntime) {
         code: None,
         cr2: None,
     });
-    assert!(rt; emulate(&mut m, &NoHits, &mut Nothing).outcome == undefined);
+    assert!(rt; emulate(&mut m, &NoHits, &mut Nothing, &mut rec, 1).outcome == undefined);
     assert!(rt; m.cpu().rip == 0x200);
+}
+
+#[test]
+fn a_kept_answer_takes_the_place_of_the_device(rt: HostRuntime) {
+    let mut m = machine(rt.alloc()).expect(&rt, "memory");
+    // IN AL, 60h; HLT.
+    assert!(rt; m.poke(0x100, &[0xE4, 0x60, 0xF4]).is_ok());
+    let mut cpu = Cpu::reset();
+    cpu.rip = 0x100;
+    assert!(rt; m.set_cpu(cpu).is_ok());
+    let read = Access {
+        space: Space::Port,
+        write: false,
+        address: 0x60,
+        size: 1,
+        value: 0,
+    };
+    // A step that was asked for the port, and one that comes after it: nothing changes, the record neither.
+    let mut rec = Record::of(&[], read);
+    cpu.rip = 0x102;
+    assert!(rt; m.set_cpu(cpu).is_ok());
+    let mut report = Report::new();
+    emulate_into(&mut m, &NoHits, &mut Nothing, &mut rec, 1, &mut report);
+    let diverged = Outcome::Diverged {
+        at: 0,
+        kept: read,
+        wanted: None,
+    };
+    assert!(rt; report.outcome == diverged);
+    assert!(rt; report.accesses.is_empty());
+    assert!(rt; m.cpu().rip == 0x102);
+    assert!(rt; rec.asked() == Some(read));
+    // The step that it belongs to goes on, and the device is asked.
+    cpu.rip = 0x100;
+    assert!(rt; m.set_cpu(cpu).is_ok());
+    emulate_into(&mut m, &NoHits, &mut Nothing, &mut rec, 1, &mut report);
+    assert!(rt; report.row == Some(Row::In));
+    assert!(rt; report.accesses.len() == 1);
+    assert!(rt; rec.asked().is_none());
+    assert!(rt; rec.answers().is_empty());
+    rec.abandon();
 }

@@ -1,35 +1,61 @@
-use Rattle.std.proofs.Common.{ℕ, suc, ◌≡◌, ◌+◌, ◌<◌, ◌≤◌, List, [], ◌∷◌, ◌++◌, Result, Ok, Err, refl, sym, ap, subst, ◌∙◌, append_assoc, length, drop, get_or, add-one}
+use Rattle.std.proofs.Common.{ℕ, suc, ◌≡◌, ◌+◌, ◌<◌, ◌≤◌, List, [], ◌∷◌, ◌++◌, Option, Some, None, Result, Ok, Err, refl, sym, ap, subst, ◌∙◌, append_assoc, length, drop, get_or, add-one}
 use Rattle.std.proofs.Math.Seq.{drop-cons}
 use Rattle.std.proofs.lemmas.List.{append-nil, drop_all}
 use Rattle.xe_base.specs.Ram.{Area}
 use Rattle.xe_base.specs.declared.access.Access.{Access}
-use Rattle.xe_base.specs.declared.access.Answer.{Answer}
 use Rattle.xe_base.specs.declared.access.Made.{Made}
-use Rattle.xe_ctx.specs.Bus.{BusView}
-use Rattle.xe_ctx.specs.Is.{Sight, Moves, Equals, Does, does, Gathers, Goes}
-use Rattle.xe_ctx.specs.Part.{View, Part, Ran, Gave, Waits, Stops, then_ran, ◌>>=◌, give, stop, look, change, ask, gather, each}
-use Rattle.xe_ctx.specs.Supply.{Supply, Supplies}
+use Rattle.xe_ctx.specs.Ending.{Ending, Raises, Exits, Interrupts, HandsOver, stop_of}
+use Rattle.xe_ctx.specs.Is.{Sight, Leaves, Stood, Equals, Does, does, Gathers, Goes, Comes, WaitsForOne, IsAt, AsksEach, why_of}
+use Rattle.xe_ctx.specs.Part.{View, Part, Ran, Gave, Waits, Ends, then_ran, ◌>>=◌, give, stop, look, change, gather, each}
+use Rattle.xe_ctx.specs.Supply.{Supply, Supplies, Lack}
 use Rattle.xe_ctx.specs.declared.stop.Stop.{Stop}
-use Rattle.xe_ctx.proofs.Supplies.{supplies-split, moves_then, moves_none}
+use Rattle.xe_ctx.specs.declared.stop.Stop.TheVariants as stops
+use Rattle.xe_ctx.proofs.Supplies.{supplies-split, moves_then, moves_none, asks_join, asks_map}
 
 module _ {A B : Type 0} (m : Part A) (f : A → Part B) where
   gave_then : (v : View) (s : Supply) (x : A) (w : View) (rest : Supply) → m v s ≡ Gave x w rest → (m >>= f) v s ≡ f x w rest
   unfolding ◌>>=◌
   gave_then v s x w rest e = rw e refl
 
-  stop_then : (v : View) (s : Supply) (e : Stop) (w : View) (rest : Supply) → m v s ≡ Stops e w rest → (m >>= f) v s ≡ Stops e w rest
+  -- what a part comes to that stopped, it comes to with another behind it
+  come-one : (r : Ran A) (a : Option Access) (v : View) (rest : Supply) → WaitsForOne r a v rest → WaitsForOne (then_ran r f) a v rest
+  come-one r None v rest c = c
+  come-one r (Some a) v rest c = λ lack left h. rw (c lack left h) refl
+
+  come-stop : (r : Ran A) (e : Stop) (v : View) (rest : Supply) → Comes r (Err e) v rest → Comes (then_ran r f) (Err e) v rest
+  come-stop r (stops.Fault x) v rest c = rw c refl
+  come-stop r (stops.Intercept x) v rest c = rw c refl
+  come-stop r (stops.Event x) v rest c = rw c refl
+  come-stop r (stops.Handoff x) v rest c = rw c refl
+  come-stop r (stops.Pending a) v rest c = λ lack left h. rw (c lack left h) refl
+  come-stop r (stops.BusFault a) v rest c = λ lack left h. rw (c lack left h) refl
+  come-stop r (stops.Diverged d) v rest c = come-one r d.wanted v rest c
+
+  stop-comes : (v : View) (s : Supply) (e : Stop) (w : View) (rest : Supply) → Comes (m v s) (Err e) w rest → Comes ((m >>= f) v s) (Err e) w rest
   unfolding ◌>>=◌
-  stop_then v s e w rest is = rw is refl
+  stop-comes v s e w rest c = come-stop (m v s) e w rest c
+
+  stop-at : (v : View) (s : Supply) (a : Access) (before : List Made) (lack : Lack) (left : Supply) → IsAt (m v s) a before lack left → IsAt ((m >>= f) v s) a before lack left
+  unfolding ◌>>=◌
+  stop-at v s a before lack left at = record { view = at.view; made_ = at.made_; waits = rw at.waits refl }
+
+  -- the accesses of what follows a part stand behind those of the part
+  asks-right : (x : A) (old mid : View) (xs : List Made) → mid.made ≡ old.made ++ xs → ((s rest : Supply) → Supplies s xs rest → m old s ≡ Gave x mid rest) → (ys c : List Made) → AsksEach (f x mid) mid.made c ys → AsksEach ((m >>= f) old) old.made (xs ++ c) ys
+  asks-right x old mid xs e g [] c h = tt
+  asks-right x old mid xs e g (y ∷ ys) c h = (
+    λ s rest left lack sup lacks. (let r = supplies-split xs c s rest sup in let at = h.0 r.0 rest left lack r.2 lacks in record { view = at.view; made_ = at.made_ ∙ (ap (λ made. made ++ c) e ∙ append_assoc old.made xs c); waits = gave_then old s x mid r.0 (g s r.0 r.1) ∙ at.waits }),
+    subst (λ b. AsksEach ((m >>= f) old) old.made b ys) (sym (append_assoc xs c (y ∷ []))) (asks-right x old mid xs e g ys (c ++ y ∷ []) h.1),
+  )
 
   -- a part that gave a value, and then what follows it
   equals_then : (x : A) (res : Result B Stop) (old mid new : Sight) → Equals m old (Ok x) mid → Equals (f x) mid res new → Equals (m >>= f) old res new
   equals_then x res old mid new d e =
-      let first : (s rest : Supply) → Supplies s (d.extra ++ e.extra) rest → (u : Supply) × ((m >>= f) old.step s ≡ f x mid.step u) × Supplies u e.extra rest = λ s rest h. (let r = supplies-split d.extra e.extra s rest h in (r.0, gave_then old.step s x mid.step r.0 (d.gave x refl s r.0 r.1), r.2)) in
+      let right : AsksEach ((m >>= f) old.step) old.step.made (d.extra ++ []) e.extra = asks-right x old.step mid.step d.extra d.moves.made d.comes e.extra [] e.asks in
       record {
         extra = d.extra ++ e.extra;
-        moves = moves_then old mid new d.extra e.extra d.moves e.moves;
-        gave = λ y is s rest h. let r = first s rest h in r.1 ∙ e.gave y is r.0 rest r.2;
-        stops = λ y is s rest h. let r = first s rest h in r.1 ∙ e.stops y is r.0 rest r.2;
+        moves = moves_then old mid new d.extra e.extra (why_of res) d.moves e.moves;
+        comes = λ s rest h. (let r = supplies-split d.extra e.extra s rest h in subst (λ ran. Comes ran res new.step rest) (sym (gave_then old.step s x mid.step r.0 (d.comes s r.0 r.1))) (e.comes r.0 rest r.2));
+        asks = asks_join ((m >>= f) old.step) old.step.made d.extra e.extra [] (asks_map (m old.step) ((m >>= f) old.step) old.step.made (stop-at old.step) [] d.extra d.asks) (subst (λ b. AsksEach ((m >>= f) old.step) old.step.made b e.extra) (append-nil d.extra) right);
       }
 
   -- a part that stopped
@@ -37,21 +63,30 @@ module _ {A B : Type 0} (m : Part A) (f : A → Part B) where
   equals_stop e old new d = record {
     extra = d.extra;
     moves = d.moves;
-    gave = λ y is. cc;
-    stops = λ t is s rest h. let same : e ≡ t = cc in stop_then old.step s t new.step rest (d.stops t (ap Err same) s rest h);
+    comes = λ s rest h. stop-comes old.step s e new.step rest (d.comes s rest h);
+    asks = asks_map (m old.step) ((m >>= f) old.step) old.step.made (stop-at old.step) [] d.extra d.asks;
   }
 
--- a part that makes no access
-module _ {T : Type 0} (p : Part T) (v : Sight) (now : View) (same : now.made ≡ v.step.made) where
-  pub quiet_gave : (x : T) → ((s : Supply) → p v.step s ≡ Gave x now s) → Does p v (Ok x) (record v { step = now })
-  quiet_gave x e =
-      let all : Equals p v (Ok x) (record v { step = now }) = record { extra = []; moves = moves_none v now same; gave = λ y is s rest h. let t : x ≡ y = cc in rw (← t, ← h) (e s); stops = λ y is. cc } in
+-- a part that makes no access, and asks for none
+module _ {T : Type 0} (p : Part T) (v : Sight) (work : List Area) where
+  pub quiet : (res : Result T Stop) → ((s : Supply) → Leaves (why_of res) s s) → Stood (why_of res) v (record v { step = record v.step { work = work } }) → ((s : Supply) → Comes (p v.step s) res (record v.step { work = work }) s) → Does p v res (record v { step = record v.step { work = work } })
+  quiet res leaves stood e =
+      let all : Equals p v res (record v { step = record v.step { work = work } }) = record {
+        extra = [];
+        moves = moves_none v work (why_of res) leaves stood;
+        comes = λ s rest h. subst (λ r. Comes (p v.step s) res (record v.step { work = work }) r) h (e s);
+        asks = tt;
+      } in
       does all
 
-  pub quiet_stops : (e : Stop) → ((s : Supply) → p v.step s ≡ Stops e now s) → Does p v (Err e) (record v { step = now })
-  quiet_stops x e =
-      let all : Equals p v (Err x) (record v { step = now }) = record { extra = []; moves = moves_none v now same; gave = λ y is. cc; stops = λ y is s rest h. let t : x ≡ y = cc in rw (← t, ← h) (e s) } in
-      does all
+  pub quiet_gave : (x : T) → ((s : Supply) → p v.step s ≡ Gave x (record v.step { work = work }) s) → Does p v (Ok x) (record v { step = record v.step { work = work } })
+  quiet_gave x e = quiet (Ok x) (λ s. refl) tt e
+
+  pub quiet_ends : (e : Ending) → ((s : Supply) → p v.step s ≡ Ends e (record v.step { work = work }) s) → Does p v (Err (stop_of e)) (record v { step = record v.step { work = work } })
+  quiet_ends (Raises x) e = quiet (Err (stops.Fault x)) (λ s. refl) tt e
+  quiet_ends (Exits x) e = quiet (Err (stops.Intercept x)) (λ s. refl) tt e
+  quiet_ends (Interrupts x) e = quiet (Err (stops.Event x)) (λ s. refl) tt e
+  quiet_ends (HandsOver x) e = quiet (Err (stops.Handoff x)) (λ s. refl) tt e
 
 pub does_then : {A B : Type 0} {m : Part A} (f : A → Part B) {x : A} {old mid new : Sight} {res : Result B Stop} → Does m old (Ok x) mid → Does (f x) mid res new → Does (m >>= f) old res new
 does_then f (does d) (does e) = does (equals_then _ f _ _ _ _ _ d e)
@@ -61,55 +96,43 @@ does_stop f (does d) = does (equals_stop _ f _ _ _ d)
 
 pub does_give : {T : Type 0} {x : T} {v : Sight} → Does (give x) v (Ok x) v
 unfolding give
-does_give {x = x} {v = v} = quiet_gave _ v v.step refl x (λ s. refl)
+does_give {x = x} {v = v} = quiet_gave _ v v.step.work x (λ s. refl)
 
-pub does_stopped : {T : Type 0} {e : Stop} {v : Sight} → Does {T = T} (stop e) v (Err e) v
+pub does_stopped : {T : Type 0} (e : Ending) {v : Sight} → Does {T = T} (stop e) v (Err (stop_of e)) v
 unfolding stop
-does_stopped {e = e} {v = v} = quiet_stops _ v v.step refl e (λ s. refl)
+does_stopped e {v = v} = quiet_ends _ v v.step.work e (λ s. refl)
 
 pub does_look : {T : Type 0} (f : View → T) (v : Sight) → Does (look f) v (Ok (f v.step)) v
 unfolding look
-does_look f v = quiet_gave _ v v.step refl _ (λ s. refl)
+does_look f v = quiet_gave _ v v.step.work _ (λ s. refl)
 
 pub does_change : (f : List Area → List Area) (v : Sight) (w : List Area) → w ≡ f v.step.work → Does (change f) v (Ok tt) (record v { step = record v.step { work = w } })
 unfolding change
-does_change f v w e = quiet_gave _ v (record v.step { work = w }) refl tt (λ s. rw e refl)
+does_change f v w e = quiet_gave _ v w tt (λ s. rw e refl)
 
 -- parts that do the same
 same_equals : {T : Type 0} (p q : Part T) {old new : Sight} {res : Result T Stop} → ((v : View) (s : Supply) → p v s ≡ q v s) → Equals p old res new → Equals q old res new
-same_equals p q e d = record {
+same_equals p q {old = old} {new = new} {res = res} e d = record {
   extra = d.extra;
   moves = d.moves;
-  gave = λ y is s rest h. sym (e _ _) ∙ d.gave y is s rest h;
-  stops = λ y is s rest h. sym (e _ _) ∙ d.stops y is s rest h;
+  comes = λ s rest h. subst (λ r. Comes r res new.step rest) (e old.step s) (d.comes s rest h);
+  asks = asks_map (p old.step) (q old.step) old.step.made (λ s a before lack left at. record { view = at.view; made_ = at.made_; waits = sym (e old.step s) ∙ at.waits }) [] d.extra d.asks;
 }
 
 pub does_same : {T : Type 0} (p q : Part T) {old new : Sight} {res : Result T Stop} → ((v : View) (s : Supply) → p v s ≡ q v s) → Does p old res new → Does q old res new
 does_same p q e (does d) = does (same_equals p q e d)
 
--- one access, answered by the bus
-pub ask_gives : (v : Sight) (made : List Made) (bus : BusView) (a : Access) (r : Answer) → made ≡ v.step.made ++ record { access = a; answer = r } ∷ [] → Moves v (record { access = a; answer = r } ∷ []) (record v { step = record v.step { made = made }; bus = bus }) → Does (ask a) v (Ok r) (record v { step = record v.step { made = made }; bus = bus })
-unfolding ask
-ask_gives v made bus a r e moves =
-    let all : Equals (ask a) v (Ok r) (record v { step = record v.step { made = made }; bus = bus }) = record {
-      extra = record { access = a; answer = r } ∷ [];
-      moves = moves;
-      gave = λ y is s rest h. let t : r ≡ y = cc in rw (← t, e, h.1, h.2) refl;
-      stops = λ y is. cc;
-    } in
-    does all
-
 -- a part and nothing after it
 then_give : {T : Type 0} (r : Ran T) → then_ran r give ≡ r
 unfolding give
 then_give (Gave x v s) = refl
-then_give (Waits a v) = refl
-then_give (Stops e v s) = refl
+then_give (Waits a lack v s) = refl
+then_give (Ends e v s) = refl
 
 ran_assoc : {A B C : Type 0} (r : Ran A) (k : A → Part B) (f : B → Part C) → then_ran (then_ran r k) f ≡ then_ran r (λ y v s. then_ran (k y v s) f)
 ran_assoc (Gave x v s) k f = refl
-ran_assoc (Waits a v) k f = refl
-ran_assoc (Stops e v s) k f = refl
+ran_assoc (Waits a lack v s) k f = refl
+ran_assoc (Ends e v s) k f = refl
 
 pub does_assoc : {A B C : Type 0} (m : Part A) (k : A → Part B) (f : B → Part C) {old new : Sight} {res : Result C Stop} → Does (m >>= (λ y. k y >>= f)) old res new → Does ((m >>= k) >>= f) old res new
 unfolding ◌>>=◌
@@ -118,8 +141,8 @@ does_assoc m k f h = does_same (λ v s. then_ran (m v s) (λ y w more. then_ran 
 ran_more : {Y : Type 0} (r : Ran (List Y)) (out ys : List Y) → then_ran r (λ rest. give ((out ++ ys) ++ rest)) ≡ then_ran (then_ran r (λ rest. give (ys ++ rest))) (λ rest. give (out ++ rest))
 unfolding give
 ran_more (Gave x v s) out ys = ap (λ zs. Gave zs v s) (append_assoc out ys x)
-ran_more (Waits a v) out ys = refl
-ran_more (Stops e v s) out ys = refl
+ran_more (Waits a lack v s) out ys = refl
+ran_more (Ends e v s) out ys = refl
 
 more_same : {Y : Type 0} (m : Part (List Y)) (out ys : List Y) {old new : Sight} {res : Result (List Y) Stop} → Does (m >>= (λ rest. give ((out ++ ys) ++ rest))) old res new → Does ((m >>= (λ rest. give (ys ++ rest))) >>= (λ rest. give (out ++ rest))) old res new
 unfolding ◌>>=◌
@@ -204,6 +227,6 @@ module _ {X : Type 0} (body : X → Part (Unit {0})) (x : X) where
   each_second y r t = does_then _ r (does_stop _ t)
 
 -- what a function's proof cites
-pub ruleset part_rules = (does_then, does_stop, does_give, does_stopped, does_look, does_change)
+pub ruleset part_rules = (does_then, does_stop, does_give, does_look, does_change)
 
 pub ruleset loop_rules = (gathers_none, gathers_more, gathers_stop, gathers_done, goes_none, goes_more, goes_stop, goes_done)

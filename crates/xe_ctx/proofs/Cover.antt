@@ -1,9 +1,11 @@
-use Rattle.std.proofs.Common.{ℕ, zero, suc, ◌≡◌, ◌<◌, ◌≤◌, ◌+◌, ◌-◌, ◌%◌, ◌^◌, List, [], ◌∷◌, ◌++◌, All, true, refl, ap, ◌∙◌, arith, inl, inr, append-nil}
+use Rattle.std.proofs.Common.{ℕ, zero, suc, ◌≡◌, ◌<◌, ◌≤◌, ◌+◌, ◌-◌, ◌%◌, ◌^◌, List, [], ◌∷◌, ◌++◌, All, true, refl, sym, ap, ◌∙◌, arith, inl, inr, append-nil}
 use Rattle.std.specs.List.{range_with_len}
+use Rattle.std.proofs.Math.Nat.{mod-eq_of_lt, zero-mod}
+use Rattle.std.proofs.Math.Pow.{mod-mod-pow}
 use Rattle.std.proofs.lemmas.Bool.{cases_lt}
 use Rattle.std.proofs.lemmas.List.Elements.{All-nil, All-cons}
 use Rattle.xe_ctx.specs.Chunks.{first_size, chunks_from, chunks, addresses_of, places_of}
-use Rattle.xe_ctx.specs.Memory.{Piece, pieces, piece_places, IsInPage, IsPieceOf}
+use Rattle.xe_ctx.specs.Memory.{Piece, pieces, piece_places, next_page, IsInPage, IsPieceOf}
 use Rattle.xe_ctx.proofs.Cut.{first-small, first-pos}
 use Rattle.xe_ctx.proofs.Pieces.{one-piece, two-pieces}
 
@@ -56,20 +58,37 @@ all-one P p h = All-cons P p [] h (All-nil P)
 all-two : (P : Piece → Type 0) (p q : Piece) → P p → P q → All P (p ∷ q ∷ [])
 all-two P p q h g = All-cons P p (q ∷ []) h (all-one P q g)
 
-pub pieces_in_page : (la n : ℕ) → n ≤ 4096 → All IsInPage (pieces la n)
-pieces_in_page la n h = elim (cases_lt (4096 - la % 4096) n) [
-  | inl m ↦ rw (two-pieces true la n m) (all-two IsInPage _ _ (omega arith) (omega arith))
-  | inr m ↦ rw (one-piece true la n m) (all-one IsInPage _ (omega arith))
+-- the next page begins at a multiple of 4096
+next-starts : (bits la : ℕ) → next_page bits la % 4096 ≡ 0
+next-starts bits la =
+    let x : (la + (4096 - la % 4096)) % 2 ^ 12 ≡ 0 = omega arith in
+    elim (cases_lt bits 12) [
+      | inl m ↦
+          let j : 12 - bits + bits ≡ 12 = omega arith in
+          let f : (la + (4096 - la % 4096)) % 2 ^ bits ≡ 0 = sym (mod-mod-pow (la + (4096 - la % 4096)) (12 - bits) bits) ∙ ap (λ k. (la + (4096 - la % 4096)) % 2 ^ k % 2 ^ bits) j ∙ ap (λ r. r % 2 ^ bits) x ∙ zero-mod (2 ^ bits) in
+          rw f refl
+      | inr m ↦
+          let j : bits - 12 + 12 ≡ bits = omega arith in
+          ap (λ k. (la + (4096 - la % 4096)) % 2 ^ k % 4096) (sym j) ∙ mod-mod-pow (la + (4096 - la % 4096)) (bits - 12) 12 ∙ x
+    ]
+
+pub pieces_in_page : (bits la n : ℕ) → n ≤ 4096 → All IsInPage (pieces bits la n)
+pieces_in_page bits la n h = elim (cases_lt (4096 - la % 4096) n) [
+  | inl m ↦ let k : next_page bits la % 4096 ≡ 0 = next-starts bits la in rw (two-pieces bits la n m) (all-two IsInPage _ _ (omega arith) (omega arith))
+  | inr m ↦ rw (one-piece bits la n m) (all-one IsInPage _ (omega arith))
 ]
 
-pub pieces_of : (la n : ℕ) → la < 2 ^ 32 → All (IsPieceOf la) (pieces la n)
-pieces_of la n h = elim (cases_lt (4096 - la % 4096) n) [
-  | inl m ↦ rw (two-pieces true la n m) (all-two (IsPieceOf la) _ _ (omega arith) refl)
-  | inr m ↦ rw (one-piece true la n m) (all-one (IsPieceOf la) _ (omega arith))
-]
+pub pieces_of : (bits la n : ℕ) → la < 2 ^ bits → All (IsPieceOf bits la) (pieces bits la n)
+pieces_of bits la n h =
+    let z : la + 0 ≡ la = omega arith in
+    let whole : la ≡ (la + 0) % 2 ^ bits = rw z (sym (mod-eq_of_lt h)) in
+    elim (cases_lt (4096 - la % 4096) n) [
+      | inl m ↦ rw (two-pieces bits la n m) (all-two (IsPieceOf bits la) _ _ whole refl)
+      | inr m ↦ rw (one-piece bits la n m) (all-one (IsPieceOf bits la) _ whole)
+    ]
 
-pub pieces_places : (la n : ℕ) → piece_places (pieces la n) ≡ range_with_len 0 n
-pieces_places la n = elim (cases_lt (4096 - la % 4096) n) [
-  | inl m ↦ let e : 0 + (4096 - la % 4096) ≡ 4096 - la % 4096 = omega arith in rw (two-pieces true la n m, append-nil) (rw e at (range-parts 0 (4096 - la % 4096) n (omega arith)))
-  | inr m ↦ rw (one-piece true la n m) (append-nil (range_with_len 0 n))
+pub pieces_places : (bits la n : ℕ) → piece_places (pieces bits la n) ≡ range_with_len 0 n
+pieces_places bits la n = elim (cases_lt (4096 - la % 4096) n) [
+  | inl m ↦ let e : 0 + (4096 - la % 4096) ≡ 4096 - la % 4096 = omega arith in rw (two-pieces bits la n m, append-nil) (rw e at (range-parts 0 (4096 - la % 4096) n (omega arith)))
+  | inr m ↦ rw (one-piece bits la n m) (append-nil (range_with_len 0 n))
 ]

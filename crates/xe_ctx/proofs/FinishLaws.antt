@@ -3,7 +3,7 @@ use Rattle.xe_base.specs.declared.access.Answer.{Answer}
 use Rattle.xe_base.specs.declared.access.Made.{Made}
 use Rattle.xe_ctx.specs.Finishes.{EachGives}
 use Rattle.xe_ctx.specs.Is.{Sight, Is, is, does}
-use Rattle.xe_ctx.specs.Part.{View, Ran, Gave, Waits, Stops, then_ran}
+use Rattle.xe_ctx.specs.Part.{View, Ran, Gave, Waits, Ends, then_ran}
 use Rattle.xe_ctx.specs.Run.{run, do_request}
 use Rattle.xe_ctx.specs.Supply.{Supply, Supplies, answers_alone, answers}
 use Rattle.xe_ctx.specs.Tree.{Tree, asks, fault, event, handoff, give, ◌>>=◌}
@@ -41,8 +41,8 @@ module _ {T : Type 0} (P : T → Type 0) where
 
   gives-ran : (k : Answer → Tree T) (r : Ran Answer) (x : T) (w : View) (rest : Supply) → ((a : Answer) (v : View) (s : Supply) → run (k a) v s ≡ Gave x w rest → P x) → then_ran r (λ a. run (k a)) ≡ Gave x w rest → P x
   gives-ran k (Gave a v s) x w rest each e = each a v s e
-  gives-ran k (Waits a v) x w rest each e = cc
-  gives-ran k (Stops t v s) x w rest each e = cc
+  gives-ran k (Waits a lack v s) x w rest each e = cc
+  gives-ran k (Ends t v s) x w rest each e = cc
 
   gives : (t : Tree T) → EachGives P t → (v : View) (s : Supply) (x : T) (w : View) (rest : Supply) → run t v s ≡ Gave x w rest → P x
   gives (asks r k) h v s x w rest e = gives-ran k (do_request r v s) x w rest (λ a u more. gives (k a) (h a) u more x w rest) e
@@ -53,4 +53,4 @@ module _ {T : Type 0} (P : T → Type 0) where
 
   -- what holds of each value that a part can come to holds of the one that it came to
   pub gives_of : (t : Tree T) (x : T) (old new : Sight) → EachGives P t → Is t old (Ok x) new → P x
-  gives_of t x old new h (is (does d)) = gives t h old.step (answers_alone (answers d.extra)) x new.step (answers_alone []) (d.gave x refl _ _ (supplied d.extra))
+  gives_of t x old new h (is (does d)) = gives t h old.step (answers_alone (answers d.extra)) x new.step (answers_alone []) (d.comes (answers_alone (answers d.extra)) (answers_alone []) (supplied d.extra))

@@ -1,7 +1,11 @@
+pub mod Widths
 pub mod Supplies
 pub mod Binds
+pub mod Records
 pub mod Asking
 pub mod Trees
+pub mod Running
+pub mod Opens
 pub mod Cut
 pub mod Work
 pub mod Holes
@@ -16,3 +20,7 @@ pub mod Frames
 pub mod NextLaws
 pub mod FinishLaws
 pub mod Cover
+pub mod BoundLaws
+pub mod Replays
+pub mod Reporting
+pub mod Trying

@@ -1,6 +1,7 @@
 use Rattle.std.proofs.Common.{ℕ, ◌≡◌, Ok, Err, Bool}
 use Rattle.xe_base.specs.declared.access.Fault.{Fault}
 use Rattle.xe_base.specs.declared.segment.SegName.{SegName}
+use Rattle.xe_ctx.specs.Ending.{Raises}
 use Rattle.xe_ctx.specs.Is.{Sight, Does}
 use Rattle.xe_ctx.specs.Memory.{locate}
 use Rattle.xe_ctx.specs.Segment.{linear_of}
@@ -15,6 +16,6 @@ module _ (seg : SegName) (offset n : ℕ) (write : Bool) (v : Sight) where
 
   pub locate_faults : (f : Fault) → Err f ≡ linear_of v.step.start.cpu seg offset n write → Does (locate seg offset n write) v (Err (Faults f)) v
   unfolding locate
-  locate_faults f e = does_then _ (does_look _ v) (rw (← e) does_stopped)
+  locate_faults f e = does_then _ (does_look _ v) (rw (← e) (does_stopped (Raises f)))
 
 pub ruleset locate_rules = (locate_gives, locate_faults)

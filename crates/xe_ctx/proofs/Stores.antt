@@ -2,12 +2,14 @@ use Rattle.std.proofs.Common.{ℕ, ◌≡◌, ◌<◌, ◌≤◌, ◌+◌, ◌-�
 use Rattle.std.proofs.lemmas.Bool.{cases_lt}
 use Rattle.std.proofs.lemmas.List.{take_all, length-drop, length-take}
 use Rattle.xe_base.specs.Ram.{Area, put_bytes}
+use Rattle.xe_base.specs.State.{address_bits}
 use Rattle.xe_ctx.specs.Chunks.{chunks, is_size, most}
 use Rattle.xe_ctx.specs.Is.{Sight, Does}
-use Rattle.xe_ctx.specs.Memory.{next_page, place, are_ram, write_if, write_bytes, write_place, devices_write, store_at}
+use Rattle.xe_ctx.specs.Memory.{next_page, place, are_ram, write_if, write_bytes, write_place, devices_write, width, store_at}
+use Rattle.xe_ctx.specs.Part.{View}
 use Rattle.xe_ctx.specs.declared.stop.Stop.{Stop}
 use Rattle.xe_ctx.proofs.Binds.{does_then, does_stop, does_look, does_change, gather_one, gather_first, gather_second, each_one, each_first, each_two, each_second}
-use Rattle.xe_ctx.proofs.Pieces.{one-piece, two-pieces, placed, unplaced, places, two-room}
+use Rattle.xe_ctx.proofs.Pieces.{place-one, place-none, place-second, place-two, two-room}
 
 -- a piece
 module _ (v : Sight) (pa : ℕ) (bytes : List ℕ) where
@@ -15,9 +17,9 @@ module _ (v : Sight) (pa : ℕ) (bytes : List ℕ) where
   unfolding write_bytes write_if
   write_out res w f r = does_then _ (does_look _ v) (rw f r)
 
-  pub write_ram : (w : List Area) → are_ram v.step.work pa (length bytes) ≡ true → w ≡ put_bytes v.step.work pa bytes → Does (write_bytes pa bytes) v (Ok tt) (record v { step = record v.step { work = w } })
+  pub write_ram : (w : List Area) (step : View) → are_ram v.step.work pa (length bytes) ≡ true → w ≡ put_bytes v.step.work pa bytes → step ≡ record v.step { work = w } → Does (write_bytes pa bytes) v (Ok tt) (record v { step = step })
   unfolding write_bytes write_if
-  write_ram w t e = does_then _ (does_look _ v) (rw t (does_change _ v w e))
+  write_ram w step t e is = rw is (does_then _ (does_look _ v) (rw t (does_change _ v w e)))
 
 -- a store of one piece and of two
 module _ (la : ℕ) (bytes : List ℕ) where
@@ -34,45 +36,42 @@ module _ (la : ℕ) (bytes : List ℕ) where
   back pa r = r
 
   pub store_one : length bytes ≤ 4096 - la % 4096 → {pa : ℕ} {old mid new : Sight} → Does (place true la) old (Ok pa) mid → Does (write_bytes pa bytes) mid (Ok tt) new → Does (store_at la bytes) old (Ok tt) new
-  unfolding store_at
-  store_one h r t = rw (one-piece true la (length bytes) h) (does_then _ (gather_one _ _ (placed true la (length bytes) (record { la = la; at = 0; n = length bytes }) r)) (each_one _ _ (whole _ t)))
+  unfolding store_at width
+  store_one h r t = does_then _ (does_look _ _) (does_then _ (place-one true _ la (length bytes) h r) (each_one _ _ (whole _ t)))
 
   pub store_one_stop : length bytes ≤ 4096 - la % 4096 → {pa : ℕ} {s : Stop} {old mid new : Sight} → Does (place true la) old (Ok pa) mid → Does (write_bytes pa bytes) mid (Err s) new → Does (store_at la bytes) old (Err s) new
-  unfolding store_at
-  store_one_stop h r t = rw (one-piece true la (length bytes) h) (does_then _ (gather_one _ _ (placed true la (length bytes) (record { la = la; at = 0; n = length bytes }) r)) (each_first _ _ [] (whole _ t)))
+  unfolding store_at width
+  store_one_stop h r t = does_then _ (does_look _ _) (does_then _ (place-one true _ la (length bytes) h r) (each_first _ _ [] (whole _ t)))
 
   pub store_no_place : {s : Stop} {old new : Sight} → Does (place true la) old (Err s) new → Does (store_at la bytes) old (Err s) new
-  unfolding store_at
-  store_no_place r = elim (cases_lt (4096 - la % 4096) (length bytes)) [
-    | inl m ↦ rw (two-pieces true la (length bytes) m) (does_stop _ (gather_first _ _ _ (unplaced true la (length bytes) (record { la = la; at = 0; n = 4096 - la % 4096 }) r)))
-    | inr m ↦ rw (one-piece true la (length bytes) m) (does_stop _ (gather_first _ _ [] (unplaced true la (length bytes) (record { la = la; at = 0; n = length bytes }) r)))
-  ]
+  unfolding store_at width
+  store_no_place r = does_then _ (does_look _ _) (does_stop _ (place-none true _ la (length bytes) r))
 
-  module _ (h : 4096 - la % 4096 < length bytes) {pa : ℕ} {old mid : Sight} (r : Does (place true la) old (Ok pa) mid) where
-    pub store_no_second : {s : Stop} {new : Sight} → Does (place true (next_page la)) mid (Err s) new → Does (store_at la bytes) old (Err s) new
-    unfolding store_at
-    store_no_second t = rw (two-pieces true la (length bytes) h) (does_stop _ (gather_second _ _ _ (placed true la (length bytes) (record { la = la; at = 0; n = 4096 - la % 4096 }) r) (unplaced true la (length bytes) (record { la = next_page la; at = 4096 - la % 4096; n = length bytes - (4096 - la % 4096) }) t)))
+  module _ (h : 4096 - la % 4096 < length bytes) {next pa : ℕ} {old mid : Sight} (is : next ≡ next_page (address_bits old.step.start.cpu) la) (r : Does (place true la) old (Ok pa) mid) where
+    pub store_no_second : {s : Stop} {new : Sight} → Does (place true next) mid (Err s) new → Does (store_at la bytes) old (Err s) new
+    unfolding store_at width
+    store_no_second t = does_then _ (does_look _ _) (does_stop _ (place-second true _ la (length bytes) h is r t))
 
-    module _ {pb : ℕ} {both : Sight} (t : Does (place true (next_page la)) mid (Ok pb) both) where
+    module _ {pb : ℕ} {both : Sight} (t : Does (place true next) mid (Ok pb) both) where
       pub store_first_stops : {s : Stop} {new : Sight} → Does (write_bytes pa (take (4096 - la % 4096) bytes)) both (Err s) new → Does (store_at la bytes) old (Err s) new
-      unfolding store_at
-      store_first_stops x = rw (two-pieces true la (length bytes) h) (does_then _ (places true la (length bytes) h r t) (each_first _ _ _ (front _ x)))
+      unfolding store_at width
+      store_first_stops x = does_then _ (does_look _ _) (does_then _ (place-two true _ la (length bytes) h is r t) (each_first _ _ _ (front _ x)))
 
       module _ {part : Sight} (x : Does (write_bytes pa (take (4096 - la % 4096) bytes)) both (Ok tt) part) where
         pub store_second_stops : {s : Stop} {new : Sight} → Does (write_bytes pb (take (length bytes - (4096 - la % 4096)) (drop (4096 - la % 4096) bytes))) part (Err s) new → Does (store_at la bytes) old (Err s) new
-        unfolding store_at
-        store_second_stops y = rw (two-pieces true la (length bytes) h) (does_then _ (places true la (length bytes) h r t) (each_second _ _ _ (front _ x) (back _ y)))
+        unfolding store_at width
+        store_second_stops y = does_then _ (does_look _ _) (does_then _ (place-two true _ la (length bytes) h is r t) (each_second _ _ _ (front _ x) (back _ y)))
 
         pub store_two : {new : Sight} → Does (write_bytes pb (take (length bytes - (4096 - la % 4096)) (drop (4096 - la % 4096) bytes))) part (Ok tt) new → Does (store_at la bytes) old (Ok tt) new
-        unfolding store_at
-        store_two y = rw (two-pieces true la (length bytes) h) (does_then _ (places true la (length bytes) h r t) (each_two _ _ _ (front _ x) (back _ y)))
+        unfolding store_at width
+        store_two y = does_then _ (does_look _ _) (does_then _ (place-two true _ la (length bytes) h is r t) (each_two _ _ _ (front _ x) (back _ y)))
 
         pub store_last : (res : Result (Unit {0}) Stop) {new : Sight} → Does (write_bytes pb (take (length bytes - (4096 - la % 4096)) (drop (4096 - la % 4096) bytes))) part res new → Does (store_at la bytes) old res new
         store_last (Ok u) y = store_two y
         store_last (Err e) y = store_second_stops y
 
   -- how many accesses the two pieces make at most
-  pub store-room : (pa pb : ℕ) → is_size (length bytes) ≡ true → length bytes ≤ 16 → 4096 - la % 4096 < length bytes → pa % 4096 ≡ la % 4096 → pb % 4096 ≡ (la + (4096 - la % 4096)) % 4294967296 % 4096 → length (chunks pa (length (take (4096 - la % 4096) bytes))) + length (chunks pb (length (take (length bytes - (4096 - la % 4096)) (drop (4096 - la % 4096) bytes)))) ≤ most (length bytes)
+  pub store-room : (pa pb : ℕ) → is_size (length bytes) ≡ true → length bytes ≤ 16 → 4096 - la % 4096 < length bytes → pa % 4096 ≡ la % 4096 → pb % 4096 ≡ 0 → length (chunks pa (length (take (4096 - la % 4096) bytes))) + length (chunks pb (length (take (length bytes - (4096 - la % 4096)) (drop (4096 - la % 4096) bytes)))) ≤ most (length bytes)
   store-room pa pb s h l p q =
       let a : length (take (4096 - la % 4096) bytes) ≡ 4096 - la % 4096 = omega (arith, length-take (4096 - la % 4096) bytes) in
       let b : length (take (length bytes - (4096 - la % 4096)) (drop (4096 - la % 4096) bytes)) ≡ length bytes - (4096 - la % 4096) = omega (arith, length-take (length bytes - (4096 - la % 4096)) (drop (4096 - la % 4096) bytes), length-drop (4096 - la % 4096) bytes) in

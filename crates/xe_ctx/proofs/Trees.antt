@@ -6,7 +6,8 @@ use Rattle.xe_base.specs.declared.access.Fault.{Fault}
 use Rattle.xe_icpt.specs.declared.exit.Exit.{Exit}
 use Rattle.xe_icpt.specs.declared.point.Point.{Point}
 use Rattle.xe_ctx.specs.Is.{Sight, Does, Is, is}
-use Rattle.xe_ctx.specs.Part.{View, Ran, Gave, Waits, Stops, then_ran}
+use Rattle.xe_ctx.specs.Ending.{Raises, Exits, Interrupts, HandsOver}
+use Rattle.xe_ctx.specs.Part.{View, Ran, Gave, Waits, Ends, then_ran}
 use Rattle.xe_ctx.specs.Part.{ask, ◌>>=◌ as ◌then◌}
 use Rattle.xe_ctx.specs.Run.{run, do_request}
 use Rattle.xe_ctx.specs.Supply.{Supply}
@@ -15,14 +16,14 @@ use Rattle.xe_ctx.specs.declared.stop.Event.{Event}
 use Rattle.xe_ctx.specs.declared.stop.Handoff.{Handoff}
 use Rattle.xe_ctx.specs.declared.stop.Stop.{Stop}
 use Rattle.xe_ctx.specs.declared.stop.Stop.TheVariants.{Fault as Faults, Intercept, Event as Events, Handoff as Hands}
-use Rattle.xe_ctx.proofs.Binds.{does_then, does_stop, does_give, does_same, quiet_gave, quiet_stops, does_stopped, does_look}
+use Rattle.xe_ctx.proofs.Binds.{does_then, does_stop, does_give, does_same, quiet_gave, quiet_ends, does_stopped, does_look}
 
 -- one part after another does what the first does, and then the other
 module _ {A B : Type 0} (f : A → Tree B) where
   after : (r : Ran Answer) (k : Answer → Tree A) → ((a : Answer) (v : View) (s : Supply) → run (k a >>= f) v s ≡ then_ran (run (k a) v s) (λ x. run (f x))) → then_ran r (λ a. run (k a >>= f)) ≡ then_ran (then_ran r (λ a. run (k a))) (λ x. run (f x))
   after (Gave a v s) k each = each a v s
-  after (Waits a v) k each = refl
-  after (Stops e v s) k each = refl
+  after (Waits a lack v s) k each = refl
+  after (Ends e v s) k each = refl
 
   run_then : (m : Tree A) (v : View) (s : Supply) → run (m >>= f) v s ≡ then_ran (run m v s) (λ x. run (f x))
   unfolding ◌>>=◌
@@ -43,16 +44,16 @@ pub is_stop : {A B : Type 0} {m : Tree A} (f : A → Tree B) {e : Stop} {old new
 is_stop {m = m} f (is d) = is (does_same _ (run (m >>= f)) (run_bind f m) (does_stop (λ x. run (f x)) d))
 
 pub is_give : {T : Type 0} {x : T} {v : Sight} → Is (give x) v (Ok x) v
-is_give {x = x} {v = v} = is (quiet_gave _ v v.step refl x (λ s. refl))
+is_give {x = x} {v = v} = is (quiet_gave _ v v.step.work x (λ s. refl))
 
 pub is_fault : {T : Type 0} {e : Fault} {v : Sight} → Is {T = T} (fault e) v (Err (Faults e)) v
-is_fault {e = e} {v = v} = is (quiet_stops _ v v.step refl (Faults e) (λ s. refl))
+is_fault {e = e} {v = v} = is (quiet_ends _ v v.step.work (Raises e) (λ s. refl))
 
 pub is_event : {T : Type 0} {e : Event} {v : Sight} → Is {T = T} (event e) v (Err (Events e)) v
-is_event {e = e} {v = v} = is (quiet_stops _ v v.step refl (Events e) (λ s. refl))
+is_event {e = e} {v = v} = is (quiet_ends _ v v.step.work (Interrupts e) (λ s. refl))
 
 pub is_handoff : {T : Type 0} {h : Handoff} {v : Sight} → Is {T = T} (handoff h) v (Err (Hands h)) v
-is_handoff {h = h} {v = v} = is (quiet_stops _ v v.step refl (Hands h) (λ s. refl))
+is_handoff {h = h} {v = v} = is (quiet_ends _ v v.step.work (HandsOver h) (λ s. refl))
 
 -- what the proof of an instruction cites
 pub ruleset row_rules = (is_then, is_stop, is_give, is_fault, is_event, is_handoff)
@@ -71,7 +72,7 @@ module _ {T : Type 0} (r : Request) (k : Answer → Tree T) where
   is_halted d = is (does_same _ (run (asks r k)) asked (does_stop (λ a. run (k a)) d))
 
 pub run_gives : {T : Type 0} (x : T) (v : Sight) → Does (run (give x)) v (Ok x) v
-run_gives x v = quiet_gave _ v v.step refl x (λ s. refl)
+run_gives x v = quiet_gave _ v v.step.work x (λ s. refl)
 
 -- one access
 pub is_device : (a : Access) (old new : Sight) (res : Result Answer Stop) → Does (ask a) old res new → Is (device a) old res new
@@ -86,6 +87,6 @@ point_passes p v e = is_asked (Check p) _ {a = Val 0} (does_then _ (does_look _ 
 
 pub point_stops : (p : Point) (v : Sight) (x : Exit) → v.step.hits p ≡ Some x → Is (point p) v (Err (Intercept x)) v
 unfolding point do_request
-point_stops p v x e = is_halted (Check p) _ (does_then _ (does_look _ v) (rw e (does_stop _ does_stopped)))
+point_stops p v x e = is_halted (Check p) _ (does_then _ (does_look _ v) (rw e (does_stop _ (does_stopped (Exits x)))))
 
 pub ruleset request_rules = (is_device, point_passes, point_stops)

@@ -3,6 +3,9 @@ pub mod Flow
 pub mod Tape
 pub mod Bus
 pub mod Supply
+pub mod Ending
+pub mod Kept
+pub mod Recorded
 pub mod Part
 pub mod Chunks
 pub mod Segment
@@ -18,4 +21,9 @@ pub mod View
 pub mod Next
 pub mod Finishes
 pub mod Step
+pub mod Call
 pub mod Operand
+pub mod Runs
+pub mod Contract
+pub mod Definition
+pub mod Bounds

@@ -3,15 +3,16 @@ use Rattle.std.specs.List.{range_with_len}
 use Rattle.xe_base.specs.Access.{number_of}
 use Rattle.xe_base.specs.Bytes.{num, le}
 use Rattle.xe_base.specs.Ram.{Area, in_ram, bytes_of, put_bytes}
+use Rattle.xe_base.specs.State.{address_bits}
 use Rattle.xe_base.specs.declared.access.Access.{Access}
 use Rattle.xe_base.specs.declared.access.Fault.{Fault}
 use Rattle.xe_base.specs.declared.access.Space.TheVariants.{Mem}
 use Rattle.xe_base.specs.declared.segment.SegName.{SegName}
 use Rattle.xe_ctx.specs.Chunks.{chunks}
+use Rattle.xe_ctx.specs.Ending.{Raises}
 use Rattle.xe_ctx.specs.Part.{Part, ◌>>=◌, give, stop, look, change, ask, gather, each}
 use Rattle.xe_ctx.specs.Segment.{linear_of}
 use Rattle.xe_ctx.specs.declared.chunk.Chunk.{Chunk}
-use Rattle.xe_ctx.specs.declared.stop.Stop.TheVariants.{Fault as Faults}
 
 -- Accesses to memory: the segment check, the cut at page ends, the translation of all pieces, and then the bytes, piece by piece from the lowest on.
 
@@ -57,16 +58,16 @@ pub record Place : Type 0 where
   pub at : ℕ
   pub n : ℕ
 
--- the linear address behind the page's end; addresses have 32 bits
-abbrev pub next_page : ℕ → ℕ
-next_page la = (la + (4096 - la % 4096)) % 2 ^ 32
+-- the linear address behind the page's end, where addresses have so many bits
+abbrev pub next_page : ℕ → ℕ → ℕ
+next_page bits la = (la + (4096 - la % 4096)) % 2 ^ bits
 
 -- at most 4096 bytes, cut at a page's end
-unfoldable pub pieces : ℕ → ℕ → List Piece
-pieces la n =
+unfoldable pub pieces : ℕ → ℕ → ℕ → List Piece
+pieces bits la n =
     if nat_le (la % 4096 + n) 4096
     then record { la = la; at = 0; n = n } ∷ []
-    else record { la = la; at = 0; n = 4096 - la % 4096 } ∷ record { la = next_page la; at = 4096 - la % 4096; n = n - (4096 - la % 4096) } ∷ []
+    else record { la = la; at = 0; n = 4096 - la % 4096 } ∷ record { la = next_page bits la; at = 4096 - la % 4096; n = n - (4096 - la % 4096) } ∷ []
 
 -- the places of the bytes of some pieces in the access, one piece after another
 abbrev pub piece_places : List Piece → List ℕ
@@ -76,9 +77,9 @@ piece_places ps = flat_map (λ (p : Piece). range_with_len p.at p.n) ps
 abbrev pub IsInPage : Piece → Type 0
 IsInPage p = p.la % 4096 + p.n ≤ 4096
 
--- the piece is a part of the access that begins at this linear address
-abbrev pub IsPieceOf : ℕ → Piece → Type 0
-IsPieceOf la p = p.la ≡ (la + p.at) % 2 ^ 32
+-- the piece is a part of the access that begins at this linear address, where addresses have so many bits
+abbrev pub IsPieceOf : ℕ → ℕ → Piece → Type 0
+IsPieceOf bits la p = p.la ≡ (la + p.at) % 2 ^ bits
 
 -- the physical address of a linear one, to be written or read; without paging it is the same
 unfoldable pub place : Bool → ℕ → Part ℕ
@@ -119,27 +120,34 @@ write_bytes pa bytes = do
 unfoldable pub write_place : List ℕ → Place → Part (Unit {0})
 write_place bytes p = write_bytes p.pa (take p.n (drop p.at bytes))
 
+-- how many bits linear addresses have in this step
+unfoldable pub width : Part ℕ
+width = look (λ v. address_bits v.start.cpu)
+
 -- all pieces are translated before any byte moves
 unfoldable pub load_at : Bool → ℕ → ℕ → Part (List ℕ)
 load_at write la n = do
-  places ← gather (place_piece write) (pieces la n)
+  bits ← width
+  places ← gather (place_piece write) (pieces bits la n)
   gather read_place places
 
 unfoldable pub store_at : ℕ → List ℕ → Part (Unit {0})
 store_at la bytes = do
-  places ← gather (place_piece true) (pieces la (length bytes))
+  bits ← width
+  places ← gather (place_piece true) (pieces bits la (length bytes))
   each (write_place bytes) places
 
 unfoldable pub probe_at : ℕ → ℕ → Part (Unit {0})
 probe_at la n = do
-  _ ← gather (place_piece true) (pieces la n)
+  bits ← width
+  _ ← gather (place_piece true) (pieces bits la n)
   give tt
 
 -- ---- the segment
 
 abbrev pub judged : Result ℕ Fault → Part ℕ
 judged (Ok la) = give la
-judged (Err f) = stop (Faults f)
+judged (Err f) = stop (Raises f)
 
 -- the linear address, or the exception
 unfoldable pub locate : SegName → ℕ → ℕ → Bool → Part ℕ

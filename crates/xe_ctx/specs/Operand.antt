@@ -13,6 +13,22 @@ use Rattle.xe_ctx.specs.declared.stop.Finish.{Finish}
 
 -- The operands of an instruction, and how they are read and written (SDM volume 2, "Interpreting the Instruction Reference Pages").
 
+-- the numbers of general registers, whatever part of them an instruction names; and that of AH, which has it where no REX stands
+abbrev pub ax : ℕ
+ax = 0
+
+abbrev pub cx : ℕ
+cx = 1
+
+abbrev pub dx : ℕ
+dx = 2
+
+abbrev pub bx : ℕ
+bx = 3
+
+abbrev pub ah : ℕ
+ah = 4
+
 -- an instruction of the code that runs
 abbrev pub IsOf : Cpu → Insn → Type 0
 IsOf cpu insn = IsInsn (code_size_of cpu) insn
@@ -41,7 +57,7 @@ operand_at insn cpu m =
     else Memory (effective_segment insn.pre m) (effective_offset m insn.adsize cpu (next_rip cpu insn.len))
 
 abbrev pub operand_or : Insn → Cpu → Option ModRm → Operand
-operand_or insn cpu None = Register 0
+operand_or insn cpu None = Register ax
 operand_or insn cpu (Some m) = operand_at insn cpu m
 
 -- E: the operand of the ModRM byte; without one the accumulator
@@ -50,7 +66,7 @@ operand_of insn cpu = operand_or insn cpu insn.modrm
 
 -- G: the register of the ModRM byte; without one the accumulator
 abbrev pub reg_or : Option ModRm → ℕ
-reg_or None = 0
+reg_or None = ax
 reg_or (Some m) = m.reg
 
 abbrev pub reg_of : Insn → ℕ

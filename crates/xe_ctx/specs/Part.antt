@@ -6,8 +6,8 @@ use Rattle.xe_base.specs.declared.access.Made.{Made}
 use Rattle.xe_icpt.specs.declared.exit.Exit.{Exit}
 use Rattle.xe_icpt.specs.declared.point.Point.{Point}
 use Rattle.xe_ctx.specs.State.{State}
-use Rattle.xe_ctx.specs.Supply.{Supply, Taken, Got, Lacks, next_answer}
-use Rattle.xe_ctx.specs.declared.stop.Stop.{Stop}
+use Rattle.xe_ctx.specs.Ending.{Ending}
+use Rattle.xe_ctx.specs.Supply.{Supply, Lack, Taken, Got, Lacks, next_answer}
 
 -- a step in progress: the state at its start, what is intercepted, the RAM as the step sees it, and the accesses made
 pub record View : Type 0 where
@@ -23,11 +23,12 @@ begins s hits = record { start = s; hits = hits; work = s.ram; made = [] }
 abbrev pub with_made : View → Access → Answer → View
 with_made v a r = record v { made = v.made ++ record { access = a; answer = r } ∷ [] }
 
--- how a part ends: with a value, by an access that has no answer, or by a stop
+-- how a part ends: with a value, at an access that has no answer, or by an end of the instruction; beside it the step then, and
+-- the answers that are left
 pub data Ran (T : Type 0) : Type 0 where
   Gave : T → View → Supply → Ran T
-  Waits : Access → View → Ran T
-  Stops : Stop → View → Supply → Ran T
+  Waits : Access → Lack → View → Supply → Ran T
+  Ends : Ending → View → Supply → Ran T
 
 -- a part of a step: what it does from here, with these answers
 abbrev pub Part : Type 0 → Type 0
@@ -35,8 +36,8 @@ Part T = View → Supply → Ran T
 
 abbrev pub then_ran : {A B : Type 0} → Ran A → (A → Part B) → Ran B
 then_ran (Gave x v s) f = f x v s
-then_ran (Waits a v) f = Waits a v
-then_ran (Stops e v s) f = Stops e v s
+then_ran (Waits a lack v s) f = Waits a lack v s
+then_ran (Ends e v s) f = Ends e v s
 
 infixl 10 ◌>>=◌
 -- one part after another
@@ -46,8 +47,8 @@ m >>= f = λ v s. then_ran (m v s) f
 unfoldable pub give : {T : Type 0} → T → Part T
 give x = λ v s. Gave x v s
 
-unfoldable pub stop : {T : Type 0} → Stop → Part T
-stop e = λ v s. Stops e v s
+unfoldable pub stop : {T : Type 0} → Ending → Part T
+stop e = λ v s. Ends e v s
 
 -- what is read off the step
 unfoldable pub look : {T : Type 0} → (View → T) → Part T
@@ -59,7 +60,7 @@ change f = λ v s. Gave tt (record v { work = f v.work }) s
 
 abbrev pub device_took : Access → View → Taken → Ran Answer
 device_took a v (Got r rest) = Gave r (with_made v a r) rest
-device_took a v Lacks = Waits a v
+device_took a v (Lacks lack rest) = Waits a lack v rest
 
 -- one access: it uses the next answer and is one of those made, or waits where no answer is left
 unfoldable pub ask : Access → Part Answer

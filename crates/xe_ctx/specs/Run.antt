@@ -4,15 +4,15 @@ use Rattle.xe_base.specs.declared.access.Answer.{Answer}
 use Rattle.xe_base.specs.declared.access.Answer.TheVariants.{Val}
 use Rattle.xe_icpt.specs.declared.exit.Exit.{Exit}
 use Rattle.xe_ctx.specs.Memory.{locate, load_at, store_at, probe_at}
-use Rattle.xe_ctx.specs.Part.{Part, Gave, Stops, then_ran, ◌>>=◌, give, stop, look, ask}
+use Rattle.xe_ctx.specs.Ending.{Raises, Exits, Interrupts, HandsOver}
+use Rattle.xe_ctx.specs.Part.{Part, Gave, Ends, then_ran, ◌>>=◌, give, stop, look, ask}
 use Rattle.xe_ctx.specs.Tree.{Tree, asks, fault, event, handoff, Request, Load, LoadForWrite, Probe, Store, Device, Check}
 use Rattle.xe_ctx.specs.Tree.{give as gives}
-use Rattle.xe_ctx.specs.declared.stop.Stop.TheVariants.{Fault as Faults, Intercept, Event as Events, Handoff as Hands}
 
 -- a point that is intercepted ends the step
 abbrev pub unless_hit : Option Exit → Part (Unit {0})
 unless_hit None = give tt
-unless_hit (Some e) = stop (Intercept e)
+unless_hit (Some e) = stop (Exits e)
 
 -- what a request does; its answer is 0 where nothing is read
 unfoldable pub do_request : Request → Part Answer
@@ -41,7 +41,7 @@ do_request (Check p) = do
 -- the whole part of an instruction
 abbrev pub run : {T : Type 0} → Tree T → Part T
 run (asks r k) v s = then_ran (do_request r v s) (λ a. run (k a))
-run (fault e) v s = Stops (Faults e) v s
-run (event e) v s = Stops (Events e) v s
-run (handoff h) v s = Stops (Hands h) v s
+run (fault e) v s = Ends (Raises e) v s
+run (event e) v s = Ends (Interrupts e) v s
+run (handoff h) v s = Ends (HandsOver h) v s
 run (gives x) v s = Gave x v s

@@ -2,7 +2,9 @@ use Rattle.std.specs.Prelude.{◌≡◌, List, [], ◌∷◌, Option, Some, None
 use Rattle.xe_base.specs.declared.access.Access.{Access}
 use Rattle.xe_base.specs.declared.access.Answer.{Answer}
 use Rattle.xe_base.specs.declared.access.Made.{Made}
-use Rattle.xe_ctx.specs.Tape.{Tape, ask}
+use Rattle.xe_ctx.specs.Tape.{Tape, Asked, ask}
+use Rattle.xe_ctx.specs.declared.bus.Reply.{Reply}
+use Rattle.xe_ctx.specs.declared.bus.Reply.TheVariants.{Ready, NotYet, Failed}
 
 -- where the answers of a step come from: first the given ones, one after another, then the script, where there is one
 pub record Supply : Type 0 where
@@ -17,15 +19,27 @@ answers_alone rs = record { given = rs; tape = None }
 abbrev pub from_tape : Tape → Supply
 from_tape t = record { given = []; tape = Some t }
 
--- the next answer, with what is left; or there is none
+-- why an access has no answer: there is none left and no script; the device isn't ready yet; it failed
+pub data Lack : Type 0 where
+  Unanswered : Lack
+  Unready : Lack
+  Failing : Lack
+
+-- the next answer; or that there is none. Beside it what is left: a script that was asked in vain has lost its item, too.
 pub data Taken : Type 0 where
   Got : Answer → Supply → Taken
-  Lacks : Taken
+  Lacks : Lack → Supply → Taken
+
+-- the reply of a script
+abbrev pub replied : Reply → Supply → Taken
+replied (Ready r) rest = Got r rest
+replied NotYet rest = Lacks Unready rest
+replied Failed rest = Lacks Failing rest
 
 abbrev pub taken : List Answer → Option Tape → Access → Taken
 taken (r ∷ rs) tape a = Got r (record { given = rs; tape = tape })
-taken [] (Some t) a = Got (ask t a).reply (from_tape (ask t a).after)
-taken [] None a = Lacks
+taken [] (Some t) a = replied (ask t a).reply (from_tape (ask t a).after)
+taken [] None a = Lacks Unanswered (answers_alone [])
 
 abbrev pub next_answer : Supply → Access → Taken
 next_answer s a = taken s.given s.tape a

@@ -5,10 +5,14 @@ use Rattle.xe_base.specs.declared.access.Access.{Access}
 use Rattle.xe_base.specs.declared.access.Answer.{Answer}
 use Rattle.xe_base.specs.declared.access.Answer.TheVariants.{Val, No}
 use Rattle.xe_base.specs.declared.access.Made.{Made}
+use Rattle.xe_ctx.specs.declared.bus.Reply.{Reply}
+use Rattle.xe_ctx.specs.declared.bus.Reply.TheVariants.{Ready, NotYet, Failed}
 
--- what a device gives to one access
+-- what a device does when it is asked once: it answers, it isn't ready yet, or it fails
 pub data Item : Type 0 where
   Gives : Answer → Item
+  Waits : Item
+  Fails : Item
 
 -- the accesses that share a queue of items: a space, a direction and an address
 pub record Key : Type 0 where
@@ -63,32 +67,36 @@ fitted a No = No
 abbrev pub unscripted : Access → Answer
 unscripted a = if a.write then Val 0 else Val (2 ^ (8 * a.size) - 1)
 
--- what an access gets where its queue has these items: what the first of them gives
-abbrev pub first_reply : Access → List Item → Answer
-first_reply a [] = unscripted a
-first_reply a ((Gives r) ∷ rest) = fitted a r
+-- the reply to an access whose queue has these items: that of the first of them
+abbrev pub first_reply : Access → List Item → Reply
+first_reply a [] = Ready (unscripted a)
+first_reply a ((Gives r) ∷ rest) = Ready (fitted a r)
+first_reply a (Waits ∷ rest) = NotYet
+first_reply a (Fails ∷ rest) = Failed
 
--- the script with one more access answered
-abbrev pub logged : Tape → Access → Answer → Tape
-logged t a r = record t { log = t.log ++ record { access = a; answer = r } ∷ [] }
+-- the script with one more access answered: the log tells what was answered, and nothing else
+abbrev pub logged : Tape → Access → Reply → Tape
+logged t a (Ready r) = record t { log = t.log ++ record { access = a; answer = r } ∷ [] }
+logged t a NotYet = t
+logged t a Failed = t
 
 -- a reply and the script after it
 pub record Asked : Type 0 where
-  pub reply : Answer
+  pub reply : Reply
   pub after : Tape
 
 -- the queue of the access loses its first item
 abbrev pub popped : Tape → Access → Tape
 popped t a = record t { queues = with_queue t.queues (key_of a) (drop 1 (t.queues (key_of a))) }
 
--- one access
-abbrev pub answered : Tape → Access → Answer → Asked
-answered t a r = record { reply = r; after = logged (popped t a) a r }
+-- one access is asked once
+abbrev pub replied : Tape → Access → Reply → Asked
+replied t a reply = record { reply = reply; after = logged (popped t a) a reply }
 
 unfoldable pub ask : Tape → Access → Asked
-ask t a = answered t a (first_reply a (t.queues (key_of a)))
+ask t a = replied t a (first_reply a (t.queues (key_of a)))
 
 -- what one access says of a bus that tells its script, or doesn't
-abbrev pub IsTold : Option Tape → Access → Answer → Option Tape → Type 0
+abbrev pub IsTold : Option Tape → Access → Reply → Option Tape → Type 0
 IsTold None a reply new = new ≡ None
 IsTold (Some t) a reply new = (reply ≡ (ask t a).reply) × (new ≡ Some (ask t a).after)

@@ -5,10 +5,9 @@ use Rattle.xe_base.specs.declared.access.Answer.{Answer}
 use Rattle.xe_base.specs.declared.access.Fault.{Fault}
 use Rattle.xe_base.specs.declared.segment.SegName.{SegName}
 use Rattle.xe_icpt.specs.declared.point.Point.{Point}
+use Rattle.xe_ctx.specs.Ending.{Ending, Raises, Interrupts, HandsOver}
 use Rattle.xe_ctx.specs.declared.stop.Event.{Event}
 use Rattle.xe_ctx.specs.declared.stop.Handoff.{Handoff}
-use Rattle.xe_ctx.specs.declared.stop.Stop.{Stop}
-use Rattle.xe_ctx.specs.declared.stop.Stop.TheVariants.{Fault as Faults, Event as Events, Handoff as Hands}
 
 -- What an instruction may ask of the step that it is part of. Memory is named by a segment, an offset in it and a number of bytes.
 pub data Request : Type 0 where
@@ -67,12 +66,12 @@ point p = asks (Check p) (λ _. give tt)
 -- what an instruction asks next, after these answers; or how it ends
 pub data Next (T : Type 0) : Type 0 where
   Asks : Request → Next T
-  Ends : Result T Stop → Next T
+  Ends : Result T Ending → Next T
 
 abbrev pub next_of : {T : Type 0} → Tree T → List Answer → Next T
 next_of (asks r k) [] = Asks r
 next_of (asks r k) (a ∷ got) = next_of (k a) got
-next_of (fault e) got = Ends (Err (Faults e))
-next_of (event e) got = Ends (Err (Events e))
-next_of (handoff h) got = Ends (Err (Hands h))
+next_of (fault e) got = Ends (Err (Raises e))
+next_of (event e) got = Ends (Err (Interrupts e))
+next_of (handoff h) got = Ends (Err (HandsOver h))
 next_of (give x) got = Ends (Ok x)

@@ -1,61 +1,74 @@
 //! One step in progress.
 
-ghost use Rattle.std.specs.Prelude.{◌≡◌, ℕ, ◌+◌, ◌<◌, ◌≤◌, ◌^◌, [], length, Result, Ok, Err, IfOk, OnOk, IsTrue, slice_index};
+ghost use Rattle.std.specs.Prelude.{◌≡◌, ℕ, ◌+◌, ◌-◌, ◌<◌, ◌≤◌, ◌^◌, [], length, None, Result, Ok, Err, IfOk, IfSome, OnOk, IfNone, IsTrue, slice_index};
 ghost use Rattle.xe_base.specs.Access.{IsWellFormed, answers_to};
 ghost use Rattle.xe_base.specs.State.{Valid};
 ghost use Rattle.xe_icpt.specs.Points.{IsPoint};
 ghost use Rattle.xe_ctx.specs.Bus.{HasRoom};
+ghost use Rattle.xe_ctx.specs.Ending.{stop_of};
 ghost use Rattle.xe_ctx.specs.Fetch.{avail, byte_at};
 ghost use Rattle.xe_ctx.specs.Is.{Is};
 ghost use Rattle.xe_ctx.specs.Machine.{state_of};
 ghost use Rattle.xe_ctx.specs.Part.{ask};
 ghost use Rattle.xe_ctx.specs.Tree.{device, point};
-ghost use Rattle.xe_ctx.specs.View.{view, opens, accepts, work_of, cpu_of, machine_ref, bus_ref, machine_back, bus_back, SameHandles, IsOpen, accesses_left, bytes_left, fetched_of};
+ghost use Rattle.xe_ctx.specs.Kept.{nothing};
+ghost use Rattle.xe_ctx.specs.Recorded.{kept_of};
+ghost use Rattle.xe_ctx.specs.View.{view, opens, accepts, work_of, made_in, cpu_of, state_in, kept_in, machine_ref, bus_ref, record_ref, machine_back, bus_back, record_back, SameHandles, IsOpen, accesses_left, bytes_left, fetched_of, code_of, kept_after, CanKeep, unused};
 
 use crate::bus::Bus;
 use crate::machine::Machine;
-use crate::overlay::Cell;
+use crate::record::Record;
 use crate::stop::Stop;
 use arrayvec::ArrayVec;
 use xe_base::{Access, Answer, Cpu, Made};
 use xe_icpt::{Intercepts, Point};
 
-/// One step in progress over a machine, a set of intercepts and a bus.
+/// One step in progress over a machine, a set of intercepts, a bus and a record.
 ///
 /// The machine isn't changed before [`Ctx::commit`]; a step that is given up, by [`Ctx::end`] or by
-/// being dropped, leaves it as it was.
+/// being dropped, leaves it as it was. The step's first accesses take their answers from the record, and
+/// the bus is asked for the others, the record's asked access first.
 ///
 /// A step makes at most 256 accesses, and touches at most 1,024 bytes of RAM. Each call says how
-/// many of these it may take, and has the condition that so many are left.
+/// many of these it may take, and has the condition that so many are left. It owns no list but the few
+/// bytes of its instruction: what it changes and asks stands in the machine's lists, so to begin, to hand on
+/// or to drop a step costs nothing.
 #[derive(Drop)]
 pub struct Ctx<'a, B, I> {
     pub(crate) m: &'a mut Machine,
     pub(crate) icpt: &'a I,
     pub(crate) bus: &'a mut B,
-    pub(crate) cells: ArrayVec<Cell, 1024>,
-    pub(crate) made: ArrayVec<Made, 256>,
+    pub(crate) rec: &'a mut Record,
     pub(crate) code: ArrayVec<u8, 15>,
 }
 
 impl<'a, B: Bus, I: Intercepts> Ctx<'a, B, I> {
-    /// A step that has done nothing yet.
-    #[tactic(auto, using(crate::proofs::Work::work_rules))]
-    pub fn begin(m: &'a mut Machine, icpt: &'a I, bus: &'a mut B) -> Ctx<'a, B, I>
-        requires { HasRoom (B.sight bus.old) 256 }
+    /// A step that has done nothing yet. Where the bus tells its script, its room and the record's answers
+    /// together are at least 256.
+    pub fn begin(
+        m: &'a mut Machine,
+        icpt: &'a I,
+        bus: &'a mut B,
+        rec: &'a mut Record,
+    ) -> Ctx<'a, B, I>
+        requires { HasRoom (B.sight bus.old) (256 - length (kept_of rec.old).answers) }
         ensures machine { (machine_ref result).ghost_name ≡ m.entry.ghost_name }
         ensures bus { (bus_ref result).ghost_name ≡ bus.entry.ghost_name }
-        ensures machine_is { (machine_ref result).now ≡ m.old }
-        ensures start { view B.sight I.hits result ≡ opens (state_of m.old) (I.hits icpt.now) (B.sight bus.old) }
+        ensures record { (record_ref result).ghost_name ≡ rec.entry.ghost_name }
+        ensures state { state_in result ≡ state_of m.old }
+        ensures record_is { (record_ref result).now ≡ rec.old }
+        ensures code { code_of result ≡ [] }
+        ensures start { view B.sight I.hits result ≡ opens (state_of m.old) (I.hits icpt.now) (kept_of rec.old) (B.sight bus.old) }
         ensures accesses { accesses_left result ≡ 256 }
         ensures bytes { bytes_left result ≡ 1024 }
         ensures open { IsOpen B.sight result }
     {
+        m.begin_step();
         Ctx {
             m,
             icpt,
             bus,
-            cells: ArrayVec::new(),
-            made: ArrayVec::new(),
+            rec,
             code: ArrayVec::new(),
         }
     }
@@ -73,7 +86,32 @@ impl<'a, B: Bus, I: Intercepts> Ctx<'a, B, I> {
         ensures value { result.now ≡ (view B.sight I.hits self.now).step.made }
         ensures fits { length result.now ≤ 256 }
     {
-        self.made.as_slice()
+        self.m.made()
+    }
+
+    /// The bytes of the instruction that were fetched.
+    pub fn code(&self) -> &[u8]
+        ensures value { result.now ≡ code_of self.now }
+        ensures fits { length result.now ≤ 15 }
+    {
+        self.code.as_slice()
+    }
+
+    /// Fetches all bytes of the instruction at CS:RIP that can be had, at most 15, and answers why the
+    /// next one can't: it is past the limit of CS, a sixteenth byte, or outside RAM. (SDM volume 2,
+    /// "Instruction Format".)
+    pub fn read_code(&mut self) -> Stop
+        requires open { IsOpen B.sight self.old }
+        requires none { code_of self.old ≡ [] }
+        ensures bytes_read { code_of self.new ≡ (avail (state_in self.old)).bytes }
+        ensures reason { result ≡ stop_of (avail (state_in self.old)).reason }
+        ensures same { SameHandles self.old self.new }
+        ensures open { IsOpen B.sight self.new }
+        ensures step { view B.sight I.hits self.new ≡ view B.sight I.hits self.old }
+        ensures accesses { accesses_left self.new ≡ accesses_left self.old }
+        ensures bytes { bytes_left self.new ≡ bytes_left self.old }
+    {
+        self.m.read_code(&mut self.code)
     }
 
     /// Byte `i` of the instruction at CS:RIP; or, exactly where there are not so many that can be
@@ -82,7 +120,7 @@ impl<'a, B: Bus, I: Intercepts> Ctx<'a, B, I> {
     pub fn fetch(&mut self, i: u8) -> Result<u8, Stop>
         requires open { IsOpen B.sight self.old }
         requires small { i ≤ 14 }
-        ensures byte { result ≡ byte_at (avail (state_of (machine_ref self.old).now)) i }
+        ensures byte { result ≡ byte_at (avail (state_in self.old)) i }
         ensures fetched { OnOk result (i < fetched_of self.new) }
         ensures more { fetched_of self.old ≤ fetched_of self.new }
         ensures same { SameHandles self.old self.new }
@@ -149,37 +187,66 @@ impl<'a, B: Bus, I: Intercepts> Ctx<'a, B, I> {
         }
     }
 
+    /// The first access of the record that the step hasn't reached, and its place, counted from 0 in the
+    /// order of the step: that of a kept answer, or the asked one. None exactly where the step has reached
+    /// every one.
+    pub fn unused(&self) -> Option<(u16, Access)>
+        requires open { IsOpen B.sight self.now }
+        ensures some { IfSome result (λ u. unused (kept_in self.now) (made_in self.now) ≡ Some u.1) }
+        ensures place { IfSome result (λ u. u.0 ≡ length (made_in self.now)) }
+        ensures none { IfNone result (unused (kept_in self.now) (made_in self.now) ≡ None) }
+    {
+        let at = self.m.made().len();
+        match self.rec.expected_at(at) {
+            Some(access) => Some((at as u16, access)),
+            None => None,
+        }
+    }
+
     /// The step takes effect: the machine has these registers, and the bytes of RAM that the step
-    /// has changed.
+    /// has changed; and the record keeps nothing.
     pub fn commit(self, cpu: Cpu)
         requires open { IsOpen B.sight self }
         requires valid { Valid cpu }
+        requires reached { unused (kept_in self) (made_in self) ≡ None }
         ensures bus { (bus_back self.exit).now ≡ (bus_ref self.entry).now }
         ensures machine { state_of (machine_back self.exit).now ≡ record { cpu = cpu; ram = work_of self.entry } }
+        ensures record { kept_of (record_back self.exit).now ≡ nothing }
     {
         let Ctx {
             m,
             icpt: _,
             bus: _,
-            cells,
-            made: _,
+            rec,
             code: _,
         } = self;
-        m.install(cpu, cells.as_slice());
+        m.install(cpu);
+        rec.abandon();
     }
 
-    /// The step is given up. The machine is as before it.
-    pub fn end(self)
+    /// The step is given up. The machine is as before it. Where a device wasn't ready or failed, the
+    /// record keeps the accesses made and the one that was asked; where the record belongs to another step, it
+    /// is as it was; at every other end it keeps nothing.
+    pub fn end(self, stop: &Stop)
+        requires open { IsOpen B.sight self }
+        requires keeps { CanKeep stop.now (made_in self) }
         ensures bus { (bus_back self.exit).now ≡ (bus_ref self.entry).now }
-        ensures machine { (machine_back self.exit).now ≡ (machine_ref self.entry).now }
+        ensures machine { state_of (machine_back self.exit).now ≡ state_in self.entry }
+        ensures record { kept_of (record_back self.exit).now ≡ kept_after stop.now (made_in self.entry) (kept_in self.entry) }
     {
         let Ctx {
-            m: _,
+            m,
             icpt: _,
             bus: _,
-            cells: _,
-            made: _,
+            rec,
             code: _,
         } = self;
+        match *stop {
+            Stop::Pending(asked) | Stop::BusFault(asked) => rec.keep(m.made(), asked),
+            Stop::Diverged(_) => {}
+            Stop::Fault(_) | Stop::Intercept(_) | Stop::Event(_) | Stop::Handoff(_) => {
+                rec.abandon()
+            }
+        }
     }
 }

@@ -35,9 +35,9 @@ pub fn chunks_cover_the_access()
 
 /// The pieces of an access of at most 4096 bytes are its bytes, one piece after another: each byte
 /// once and in order. No piece crosses the end of a page, and each lies at its place behind the
-/// start of the access, where addresses wrap at 32 bits.
+/// start of the access, where linear addresses have so many bits.
 pub fn pieces_cover_the_access()
-    ensures in_page { (la n : ℕ) → n ≤ 4096 → All IsInPage (pieces la n) }
-    ensures at_its_place { (la n : ℕ) → la < 2 ^ 32 → All (IsPieceOf la) (pieces la n) }
-    ensures places { (la n : ℕ) → piece_places (pieces la n) ≡ range_with_len 0 n }
+    ensures in_page { (bits la n : ℕ) → n ≤ 4096 → All IsInPage (pieces bits la n) }
+    ensures at_its_place { (bits la n : ℕ) → la < 2 ^ bits → All (IsPieceOf bits la) (pieces bits la n) }
+    ensures places { (bits la n : ℕ) → piece_places (pieces bits la n) ≡ range_with_len 0 n }
 {}

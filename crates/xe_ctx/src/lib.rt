@@ -10,15 +10,17 @@ pub mod machine;
 mod memory;
 pub mod operand;
 mod overlay;
+pub mod record;
 pub mod report;
 pub mod stop;
 
-pub use bus::Bus;
+pub use bus::{Bus, Reply};
 pub use ctx::Ctx;
 pub use machine::{Machine, NotRam};
 pub use operand::Operand;
+pub use record::Record;
 pub use report::{Outcome, Report};
-pub use stop::{Event, EventKind, Finish, Flow, Handoff, Stop};
+pub use stop::{Diverged, End, Event, EventKind, Finish, Flow, Handoff, Stop};
 
 #[cfg(test)]
 mod tests;

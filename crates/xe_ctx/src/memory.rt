@@ -2,21 +2,21 @@
 //! devices.
 #![tactic(auto, using(crate::proofs::Binds::part_rules))]
 
-ghost use Rattle.std.specs.Prelude.{◌≡◌, ℕ, ◌+◌, ◌-◌, ◌*◌, ◌<◌, ◌≤◌, ◌^◌, ◌%◌, length, Result, Ok, Err, IfOk, IsTrue, true};
+ghost use Rattle.std.specs.Prelude.{◌≡◌, ℕ, ◌+◌, ◌-◌, ◌*◌, ◌<◌, ◌≤◌, ◌^◌, ◌%◌, length, Result, Ok, Err, Some, IfOk, IsTrue, true};
 ghost use Rattle.xe_base.specs.Access.{IsWellFormed, answers_to};
 ghost use Rattle.xe_base.specs.Bytes.{num};
+ghost use Rattle.xe_base.specs.State.{address_bits};
 ghost use Rattle.xe_ctx.specs.Chunks.{chunks, Within, IsChunkSize, is_size, most};
-ghost use Rattle.xe_ctx.specs.Is.{Does, Is};
-ghost use Rattle.xe_ctx.specs.Memory.{chunk_read, chunk_write, devices_read, devices_write, place, read_place, write_bytes, load_at, store_at, probe_at, locate};
+ghost use Rattle.xe_ctx.specs.Is.{Does, Is, IsNext};
+ghost use Rattle.xe_ctx.specs.Memory.{chunk_read, chunk_write, devices_read, devices_write, next_page, place, read_place, write_bytes, load_at, store_at, probe_at, locate};
 ghost use Rattle.xe_ctx.specs.Part.{ask};
 ghost use Rattle.xe_ctx.specs.Tree.{load, load_for_write, probe, store};
-ghost use Rattle.xe_ctx.specs.View.{view, SameHandles, IsOpen, accesses_left, bytes_left, bytes_in};
+ghost use Rattle.xe_ctx.specs.View.{view, cpu_of, SameHandles, IsOpen, accesses_left, bytes_left, bytes_in};
 
-use crate::bus::{Bus, value_of};
+use crate::bus::{Bus, Reply};
 use crate::chunk::{Chunk, append, bytes_of, chunks_of, number_of};
 use crate::ctx::Ctx;
-use crate::overlay::push_cells;
-use crate::stop::Stop;
+use crate::stop::{Diverged, Stop};
 use arrayvec::ArrayVec;
 use xe_base::{Access, Answer, Made, SegName, Space};
 use xe_icpt::Intercepts;
@@ -116,6 +116,19 @@ impl<'a, B: Bus, I: Intercepts> Ctx<'a, B, I> {
         }
     }
 
+    /// The linear address behind the end of the page.
+    fn next_page(&self, la: u64) -> u64
+        ensures value { result ≡ next_page (address_bits (cpu_of self.now)) la }
+        ensures aligned { result % 4096 ≡ 0 }
+        ensures below { result < 2 ^ 32 }
+    {
+        let next = la.wrapping_add(4096 - la % 4096);
+        if self.m.cpu().is_long() {
+            return next;
+        }
+        next % (1 << 32)
+    }
+
     /// The physical address of a linear one, to be written or read.
     #[tactic(auto, using(crate::proofs::Binds::part_rules), unfolding(crate::specs::Memory::place))]
     fn place(&mut self, la: u64, write: bool) -> Result<u64, Stop>
@@ -134,7 +147,8 @@ impl<'a, B: Bus, I: Intercepts> Ctx<'a, B, I> {
         Ok(la)
     }
 
-    /// One access to a device.
+    /// One access to a device: the kept answer, where the record has one at this place, else the bus is
+    /// asked.
     pub(crate) fn ask(&mut self, a: Access) -> Result<Answer, Stop>
         requires open { IsOpen B.sight self.old }
         requires well_formed { IsWellFormed a }
@@ -146,9 +160,38 @@ impl<'a, B: Bus, I: Intercepts> Ctx<'a, B, I> {
         ensures fits { IfOk result (λ r. IsTrue (answers_to a r)) }
         ensures part { Does (ask a) (view B.sight I.hits self.old) result (view B.sight I.hits self.new) }
     {
-        let answer = self.bus.access(a);
-        self.made.push(Made { access: a, answer });
-        Ok(answer)
+        let at = self.m.made().len();
+        if let Some(kept) = self.rec.differs_at(at, a) {
+            return Err(diverged(at, kept, a));
+        }
+        if let Some(kept) = self.rec.kept_at(at) {
+            self.m.note(kept);
+            return Ok(kept.answer);
+        }
+        self.ask_bus(a)
+    }
+
+    /// The bus is asked for one access, for which the record keeps no answer, and has no other in its place.
+    fn ask_bus(&mut self, a: Access) -> Result<Answer, Stop>
+        requires open { IsOpen B.sight self.old }
+        requires well_formed { IsWellFormed a }
+        requires accesses { 1 ≤ accesses_left self.old }
+        requires stands { IsNext a (view B.sight I.hits self.old) }
+        ensures same { SameHandles self.old self.new }
+        ensures open { IsOpen B.sight self.new }
+        ensures accesses { accesses_left self.old ≤ accesses_left self.new + 1 }
+        ensures bytes { bytes_left self.new ≡ bytes_left self.old }
+        ensures fits { IfOk result (λ r. IsTrue (answers_to a r)) }
+        ensures part { Does (ask a) (view B.sight I.hits self.old) result (view B.sight I.hits self.new) }
+    {
+        match self.bus.access(a) {
+            Reply::Ready(answer) => {
+                self.m.note(Made { access: a, answer });
+                Ok(answer)
+            }
+            Reply::NotYet => Err(Stop::Pending(a)),
+            Reply::Failed => Err(Stop::BusFault(a)),
+        }
     }
 
     /// One chunk is read.
@@ -171,7 +214,7 @@ impl<'a, B: Bus, I: Intercepts> Ctx<'a, B, I> {
             size: c.size as u8,
             value: 0,
         })?;
-        Ok(bytes_of(c.size, value_of(answer) as u128))
+        Ok(bytes_of(c.size, answer.number() as u128))
     }
 
     /// Reads n bytes of devices, chunk by chunk.
@@ -257,7 +300,7 @@ impl<'a, B: Bus, I: Intercepts> Ctx<'a, B, I> {
         if !self.m.is_ram(pa, n as u64) {
             return self.read_devices(pa, n);
         }
-        Ok(self.m.read(self.cells.as_slice(), pa, n))
+        Ok(self.m.read(pa, n))
     }
 
     /// All pieces are translated before any byte is read.
@@ -281,8 +324,9 @@ impl<'a, B: Bus, I: Intercepts> Ctx<'a, B, I> {
             let pa = self.place(la, write)?;
             return self.read_piece(pa, n);
         }
+        let next = self.next_page(la);
         let first = self.place(la, write)?;
-        let second = self.place((la + room as u64) % (1 << 32), write)?;
+        let second = self.place(next, write)?;
         let mut bytes = self.read_piece(first, room)?;
         let rest = self.read_piece(second, n - room)?;
         append(&mut bytes, rest.as_slice());
@@ -303,9 +347,10 @@ impl<'a, B: Bus, I: Intercepts> Ctx<'a, B, I> {
         ensures part { Does (probe_at la n) (view B.sight I.hits self.old) result (view B.sight I.hits self.new) }
     {
         let room = 4096 - (la % 4096) as usize;
+        let next = self.next_page(la);
         self.place(la, true)?;
         if n > room {
-            self.place((la + room as u64) % (1 << 32), true)?;
+            self.place(next, true)?;
         }
         Ok(())
     }
@@ -326,7 +371,7 @@ impl<'a, B: Bus, I: Intercepts> Ctx<'a, B, I> {
         if !self.m.is_ram(pa, bytes.len() as u64) {
             return self.write_devices(pa, bytes);
         }
-        push_cells(&mut self.cells, pa, bytes);
+        self.m.write(pa, bytes);
         Ok(())
     }
 
@@ -350,9 +395,22 @@ impl<'a, B: Bus, I: Intercepts> Ctx<'a, B, I> {
             let pa = self.place(la, true)?;
             return self.write_piece(pa, bytes);
         }
+        let next = self.next_page(la);
         let first = self.place(la, true)?;
-        let second = self.place((la + room as u64) % (1 << 32), true)?;
+        let second = self.place(next, true)?;
         self.write_piece(first, &bytes[..room])?;
         self.write_piece(second, &bytes[room..])
     }
+}
+
+/// The record has another access at a place of the step.
+fn diverged(at: usize, kept: Access, wanted: Access) -> Stop
+    requires { at ≤ 255 }
+    ensures { result ≡ Stop.Diverged (record { at = at; kept = kept; wanted = Some wanted }) }
+{
+    Stop::Diverged(Diverged {
+        at: at as u16,
+        kept,
+        wanted: Some(wanted),
+    })
 }

@@ -1,23 +1,34 @@
 //! The operands of an instruction: where they lie, and how they are read and written.
 #![tactic(auto, using(crate::proofs::Trees::row_rules))]
 
-ghost use Rattle.std.specs.Prelude.{◌≡◌, ℕ, ◌+◌, ◌*◌, ◌%◌, ◌^◌, ◌<◌, ◌≤◌, IfOk, IsTrue};
-ghost use Rattle.xe_base.specs.Registers.{is_size};
-ghost use Rattle.xe_ctx.specs.Is.{Is};
-ghost use Rattle.xe_ctx.specs.Operand.{IsOf, IsOperand, is_some, has_rex, eight, size_by_opcode, operand_at, operand_of, reg_of, opcode_register, reads, writes, read_operand, read_for_write, write_operand, ends_with};
-ghost use Rattle.xe_ctx.specs.View.{view, cpu_of, SameHandles, IsOpen, accesses_left, bytes_left};
+ghost use Rattle.std.specs.Prelude.{◌≡◌, ◌*◌, ◌%◌, ◌^◌, ◌<◌};
+ghost use Rattle.xe_ctx.specs.Contract.{ℕ, false, IsTrue, is_size, IsOf, IsOperand, cpu_of, HasLeft, RunsWithin, DraftsWithin};
+ghost use Rattle.xe_base.specs.Registers.{next_rip};
+ghost use Rattle.xe_ctx.specs.Operand.{has_rex, size_by_opcode, operand_at, operand_of, reg_of, opcode_register, reads, writes, read_operand, read_for_write, write_operand};
 ghost use Rattle.xe_modrm.specs.Valid.{IsModRm};
 
 use crate::bus::Bus;
 use crate::ctx::Ctx;
-use crate::stop::{Finish, Stop};
+use crate::stop::{End, Stop};
 use xe_base::{Cpu, SegName};
 use xe_icpt::Intercepts;
 use xe_modrm::{ModRm, effective_offset, effective_segment};
 use xe_opmap::Insn;
 
+/// RAX, or its part of the operand's size, as a register's number in the encoding (SDM volume 2,
+/// "Register Operand (r) and Register Names").
+pub const AX: u8 = 0;
+/// RCX, or its part of the operand's size.
+pub const CX: u8 = 1;
+/// RDX, or its part of the operand's size.
+pub const DX: u8 = 2;
+/// RBX, or its part of the operand's size.
+pub const BX: u8 = 3;
+/// AH: the number of a byte register where no REX stands.
+pub const AH: u8 = 4;
+
 /// Where an operand lies: in a general register, or at an offset of a segment.
-#[derive(Clone, Copy, Drop, PartialEq, Eq, Debug)]
+#[derive(Clone, Copy, PartialEq, Eq, Debug)]
 pub enum Operand {
     Register(u8),
     Memory(SegName, u64),
@@ -62,7 +73,7 @@ pub fn operand_of(insn: &Insn, cpu: &Cpu) -> Operand
     ensures register { IsOperand result }
 {
     match &insn.modrm {
-        None => Operand::Register(0),
+        None => Operand::Register(AX),
         Some(modrm) => operand_at(insn, cpu, modrm),
     }
 }
@@ -74,7 +85,7 @@ pub fn reg_of(insn: &Insn, cpu: &Cpu) -> u8
     ensures register { result < 16 }
 {
     match insn.modrm {
-        None => 0,
+        None => AX,
         Some(modrm) => modrm.reg,
     }
 }
@@ -100,13 +111,13 @@ pub fn read_register(insn: &Insn, cpu: &Cpu, size: u8, register: u8) -> u64
     cpu.register(size, has_rex(insn), register)
 }
 
-/// The registers with one general register written at a width in bytes.
-pub fn write_register(insn: &Insn, cpu: &Cpu, size: u8, register: u8, value: u64) -> Cpu
+/// Writes a general register at a width in bytes.
+pub fn write_register(insn: &Insn, cpu: &mut Cpu, size: u8, register: u8, value: u64)
     requires size { IsTrue (is_size size) }
     requires register { register < 16 }
-    ensures value { result ≡ writes insn.now cpu.now size register value }
+    ensures { cpu.new ≡ writes insn.now cpu.old size register value }
 {
-    cpu.with_register(size, has_rex(insn), register, value)
+    cpu.set_register(size, has_rex(insn), register, value);
 }
 
 /// Reads an operand.
@@ -117,16 +128,10 @@ pub fn read_operand<B: Bus, I: Intercepts>(
     operand: Operand,
     size: u8,
 ) -> Result<u64, Stop>
-    requires open { IsOpen B.sight ctx.old }
+    requires ready { HasLeft B.sight ctx.old 4 10 }
     requires size { IsTrue (is_size size) }
     requires register { IsOperand operand }
-    requires accesses { 4 ≤ accesses_left ctx.old }
-    requires bytes { 10 ≤ bytes_left ctx.old }
-    ensures same { SameHandles ctx.old ctx.new }
-    ensures open { IsOpen B.sight ctx.new }
-    ensures accesses { accesses_left ctx.old ≤ accesses_left ctx.new + 4 }
-    ensures bytes { bytes_left ctx.old ≤ bytes_left ctx.new + 10 }
-    ensures part { Is (read_operand insn.now (cpu_of ctx.old) operand size) (view B.sight I.hits ctx.old) result (view B.sight I.hits ctx.new) }
+    ensures { RunsWithin B.sight I.hits (read_operand insn.now (cpu_of ctx.old) operand size) ctx.old result ctx.new 4 10 }
 {
     match operand {
         Operand::Register(register) => Ok(read_register(insn, ctx.cpu(), size, register)),
@@ -145,16 +150,10 @@ pub fn read_for_write<B: Bus, I: Intercepts>(
     operand: Operand,
     size: u8,
 ) -> Result<u64, Stop>
-    requires open { IsOpen B.sight ctx.old }
+    requires ready { HasLeft B.sight ctx.old 4 10 }
     requires size { IsTrue (is_size size) }
     requires register { IsOperand operand }
-    requires accesses { 4 ≤ accesses_left ctx.old }
-    requires bytes { 10 ≤ bytes_left ctx.old }
-    ensures same { SameHandles ctx.old ctx.new }
-    ensures open { IsOpen B.sight ctx.new }
-    ensures accesses { accesses_left ctx.old ≤ accesses_left ctx.new + 4 }
-    ensures bytes { bytes_left ctx.old ≤ bytes_left ctx.new + 10 }
-    ensures part { Is (read_for_write insn.now (cpu_of ctx.old) operand size) (view B.sight I.hits ctx.old) result (view B.sight I.hits ctx.new) }
+    ensures { RunsWithin B.sight I.hits (read_for_write insn.now (cpu_of ctx.old) operand size) ctx.old result ctx.new 4 10 }
 {
     match operand {
         Operand::Register(register) => Ok(read_register(insn, ctx.cpu(), size, register)),
@@ -179,44 +178,40 @@ fn cut(value: u64, size: u8) -> u128
     value as u128
 }
 
-/// Writes the low bytes of a number to an operand, and answers the registers afterwards: those that
-/// were handed in, but for a register operand.
+/// Writes the low bytes of a number to an operand: a register in the draft, or memory.
 #[tactic(auto, using(crate::proofs::Trees::row_rules), unfolding(crate::specs::Operand::write_operand))]
 pub fn write_operand<B: Bus, I: Intercepts>(
     insn: &Insn,
     ctx: &mut Ctx<B, I>,
-    cpu: Cpu,
+    cpu: &mut Cpu,
     operand: Operand,
     size: u8,
     value: u64,
-) -> Result<Cpu, Stop>
-    requires open { IsOpen B.sight ctx.old }
+) -> Result<(), Stop>
+    requires ready { HasLeft B.sight ctx.old 4 18 }
     requires size { IsTrue (is_size size) }
     requires register { IsOperand operand }
-    requires accesses { 4 ≤ accesses_left ctx.old }
-    requires bytes { 18 ≤ bytes_left ctx.old }
-    ensures same { SameHandles ctx.old ctx.new }
-    ensures open { IsOpen B.sight ctx.new }
-    ensures accesses { accesses_left ctx.old ≤ accesses_left ctx.new + 4 }
-    ensures bytes { bytes_left ctx.old ≤ bytes_left ctx.new + 18 }
-    ensures part { Is (write_operand insn.now cpu operand size value) (view B.sight I.hits ctx.old) result (view B.sight I.hits ctx.new) }
+    ensures { DraftsWithin B.sight I.hits (write_operand insn.now cpu.old operand size value) ctx.old result cpu.new ctx.new 4 18 }
 {
     match operand {
-        Operand::Register(register) => Ok(write_register(insn, &cpu, size, register, value)),
+        Operand::Register(register) => {
+            write_register(insn, cpu, size, register, value);
+            Ok(())
+        }
         Operand::Memory(segment, offset) => {
             ctx.store(segment, offset, size as u32, cut(value, size))?;
-            Ok(cpu)
+            Ok(())
         }
     }
 }
 
-/// The instruction finishes with these registers, RIP behind it.
-pub fn ends_with(insn: &Insn, cpu: Cpu) -> Finish
-    ensures { result ≡ ends_with insn.now cpu }
+/// The instruction is done: RIP goes behind it.
+pub fn done(insn: &Insn, cpu: &mut Cpu) -> End
+    ensures registers { cpu.new ≡ record cpu.old { rip = next_rip cpu.old insn.now.len } }
+    ensures plain { result ≡ record { more = false; retire = 0 } }
 {
-    let rip = cpu.next_rip(insn.len);
-    Finish {
-        cpu: Cpu { rip, ..cpu },
+    cpu.advance(insn.len);
+    End {
         more: false,
         retire: 0,
     }

@@ -2,7 +2,7 @@
 
 use crate::stop::{EventKind, Handoff};
 use arrayvec::ArrayVec;
-use xe_base::{Fault, Made};
+use xe_base::{Access, Fault, Made};
 use xe_icpt::Exit;
 use xe_opmap::Row;
 
@@ -16,6 +16,9 @@ pub enum Outcome {
         more: bool,
         retire: u8,
     },
+    /// A device isn't ready yet. The record keeps the answers so far, and this access; a later call
+    /// goes on from there, and asks no device again that has answered.
+    Pending(Access),
     /// The instruction raises an exception. CR2 isn't changed.
     Fault(Fault),
     /// What the instruction is about to do is intercepted.
@@ -30,11 +33,21 @@ pub enum Outcome {
     Handoff(Handoff),
     /// The bytes are no instruction that the emulator knows.
     Unhandled,
+    /// A device failed. The record is left as after `Pending`.
+    BusFault(Access),
+    /// The record belongs to another step: at this place, counted from 0 in the order of the step's
+    /// accesses, it has one access, and the step asks for another, or has ended. Nothing changed, the record
+    /// neither.
+    Diverged {
+        at: u16,
+        kept: Access,
+        wanted: Option<Access>,
+    },
     /// The instruction isn't built.
     Unbuilt(Option<Row>),
 }
 
-/// What one call did.
+/// What one call did. It can be used again from call to call, so that none makes one anew.
 #[derive(Drop)]
 pub struct Report {
     /// The instruction of the last step, None before it was decoded.
@@ -43,7 +56,49 @@ pub struct Report {
     pub finished: Option<Row>,
     /// The number of steps that finished in this call.
     pub elements: u32,
-    /// The device accesses of the last step, with their answers, in their order.
+    /// The device accesses of the last step, kept ones included, with their answers, in their order;
+    /// none at `Diverged`.
     pub accesses: ArrayVec<Made, 256>,
     pub outcome: Outcome,
+}
+
+impl Report {
+    ghost use Rattle.std.specs.Prelude.{◌≡◌, ◌≤◌, length, [], None};
+    ghost use Rattle.xe_ctx.specs.declared.report.Outcome.TheVariants.{Unhandled};
+
+    /// A report of nothing. It is inlined, so that its list is made where it is to stand.
+    #[inline(always)]
+    pub fn new() -> Report
+        ensures { result ≡ record { row = None; finished = None; elements = 0; accesses = record { items = [] }; outcome = Unhandled } }
+    {
+        Report {
+            row: None,
+            finished: None,
+            elements: 0,
+            accesses: ArrayVec::new(),
+            outcome: Outcome::Unhandled,
+        }
+    }
+
+    /// Tells of a call. It costs the accesses that were told before, and those that are told now.
+    pub fn tell(
+        &mut self,
+        row: Option<Row>,
+        finished: Option<Row>,
+        elements: u32,
+        accesses: &[Made],
+        outcome: Outcome,
+    )
+        requires { length accesses.now ≤ 256 }
+        ensures { self.new ≡ record { row = row; finished = finished; elements = elements; accesses = record { items = accesses.now }; outcome = outcome } }
+    {
+        self.row = row;
+        self.finished = finished;
+        self.elements = elements;
+        self.accesses.clear();
+        for made in accesses {
+            self.accesses.push(*made);
+        }
+        self.outcome = outcome;
+    }
 }

@@ -1,6 +1,6 @@
 //! How a step ends, other than by finishing.
 
-use xe_base::{Cpu, Fault};
+use xe_base::{Access, Cpu, Fault};
 use xe_icpt::Exit;
 
 /// The instruction that raises a software interrupt.
@@ -42,9 +42,26 @@ pub enum Handoff {
     Fetch(u64),
 }
 
+/// The record belongs to another step: at this place, counted from 0 in the order of the step's
+/// accesses, it has one access, and the step asks for another, or has ended.
+#[derive(Clone, Copy, Drop, PartialEq, Eq, Debug)]
+pub struct Diverged {
+    pub at: u16,
+    /// The access that the record has there: of a kept answer, or asked.
+    pub kept: Access,
+    /// The access of the step; None where it ended before.
+    pub wanted: Option<Access>,
+}
+
 /// How a step can end without finishing. The machine is as before the step.
 #[derive(Clone, Copy, Drop, PartialEq, Eq, Debug)]
 pub enum Stop {
+    /// A device isn't ready yet: the access that it was asked for.
+    Pending(Access),
+    /// A device failed: the access that it was asked for.
+    BusFault(Access),
+    /// The record belongs to another step.
+    Diverged(Diverged),
     /// It raises an exception.
     Fault(Fault),
     /// What it is about to do is intercepted.
@@ -64,6 +81,15 @@ pub struct Finish {
     pub more: bool,
     /// What its retirement brings with it: 1 STI turned IF from 0 to 1, 2 it was MOV SS or POP SS,
     /// 4 the processor halts.
+    pub retire: u8,
+}
+
+/// The same of an instruction that wrote its registers into a draft, without them.
+#[derive(Clone, Copy, PartialEq, Eq, Debug)]
+pub struct End {
+    /// RIP stays on the instruction, of which elements are left.
+    pub more: bool,
+    /// What its retirement brings with it, as in [`Finish`].
     pub retire: u8,
 }
 

@@ -1,9 +1,10 @@
-//! Worked examples: refusals of a machine, an access over the end of RAM, and a step that is given
-//! up.
+//! Worked examples: refusals of a machine, an access over the end of RAM, a step that is given up,
+//! and one that is suspended and resumed.
 
-ghost use Rattle.std.specs.Prelude.{None};
+ghost use Rattle.std.specs.Prelude.{None, IsTrue};
+ghost use Rattle.xe_base.specs.Access.{is_well_formed};
 
-use crate::{Bus, Ctx, Handoff, Machine, NotRam, Stop};
+use crate::{Bus, Ctx, Diverged, Handoff, Machine, NotRam, Record, Reply, Stop};
 use std::alloc::Global;
 use std::process::Abort;
 use std::test::Fail;
@@ -11,25 +12,54 @@ use xe_base::{Access, Answer, BadState, Cpu, Fault, SegName, Space};
 use xe_icpt::{NoHits, Point};
 use xe_mem::{GuestMem, Region};
 
-/// Devices that answer with the low bytes of the address.
+/// Devices that answer with the low bytes of the address, so many times, and then aren't ready.
 #[derive(Drop)]
-struct Echo;
+struct Echo {
+    ready: u64,
+    waits: u64,
+}
 
 impl Bus for Echo {
     ghost use Rattle.std.specs.Prelude.{None};
 
-    ghost sight = { λ _. record { tape = None; room = 0; spare = λ _. 0 } };
+    ghost sight = { λ b. record { tape = None; room = 0; spare = λ _. 0; unready = b.waits; faults = 0 } };
 
-    fn access(&mut self, a: Access) -> Answer {
+    fn access(&mut self, a: Access) -> Reply {
+        if self.ready == 0 {
+            self.waits = self.waits.saturating_add(1);
+            return Reply::NotYet;
+        }
+        self.ready -= 1;
         if a.write {
-            return Answer::Val(0);
+            return Reply::Ready(Answer::Val(0));
         }
         match a.size {
-            1 => Answer::Val(a.address % (1 << 8)),
-            2 => Answer::Val(a.address % (1 << 16)),
-            4 => Answer::Val(a.address % (1 << 32)),
-            _ => Answer::Val(a.address),
+            1 => Reply::Ready(Answer::Val(a.address % (1 << 8))),
+            2 => Reply::Ready(Answer::Val(a.address % (1 << 16))),
+            4 => Reply::Ready(Answer::Val(a.address % (1 << 32))),
+            _ => Reply::Ready(Answer::Val(a.address)),
         }
+    }
+}
+
+/// Devices that are always ready.
+fn always_ready() -> Echo {
+    Echo {
+        ready: u64::MAX,
+        waits: 0,
+    }
+}
+
+/// A read of one byte of a port.
+fn port(number: u16) -> Access
+    ensures { IsTrue (is_well_formed result) }
+{
+    Access {
+        space: Space::Port,
+        write: false,
+        address: number as u64,
+        size: 1,
+        value: 0,
     }
 }
 
@@ -68,8 +98,9 @@ fn reads_over_the_end_of_ram(rt: HostRuntime) {
     cpu.ds.limit = 0xF_FFFF;
     assert!(rt; m.set_cpu(cpu).is_ok());
     assert!(rt; m.poke(0xFFFF, &[0x11]).is_ok());
-    let mut bus = Echo;
-    let mut ctx = Ctx::begin(&mut m, &NoHits, &mut bus);
+    let mut bus = always_ready();
+    let mut record = Record::new();
+    let mut ctx = Ctx::begin(&mut m, &NoHits, &mut bus, &mut record);
     // One byte of RAM at FFFF, then two bytes and one of the device behind it.
     assert!(rt; ctx.load(SegName::Ds, 0xFFF, 4) == Ok(0x0200_0011));
     assert!(rt; ctx.made().len() == 2);
@@ -92,15 +123,16 @@ fn reads_over_the_end_of_ram(rt: HostRuntime) {
 fn stores_take_effect_with_the_commit(rt: HostRuntime) {
     let mut m = machine(rt.alloc()).expect(&rt, "memory");
     assert!(rt; m.poke(0, &[0xF4]).is_ok());
-    let mut bus = Echo;
-    let mut ctx = Ctx::begin(&mut m, &NoHits, &mut bus);
+    let mut bus = always_ready();
+    let mut record = Record::new();
+    let mut ctx = Ctx::begin(&mut m, &NoHits, &mut bus, &mut record);
     assert!(rt; ctx.store(SegName::Es, 0x100, 2, 0x2211).is_ok());
-    ctx.end();
+    ctx.end(&Stop::Handoff(Handoff::TaskReturn));
     let mut out = [0; 2];
     assert!(rt; m.peek(0x100, &mut out).is_ok());
     assert!(rt; out == [0, 0]);
 
-    let mut ctx = Ctx::begin(&mut m, &NoHits, &mut bus);
+    let mut ctx = Ctx::begin(&mut m, &NoHits, &mut bus, &mut record);
     assert!(rt; ctx.fetch(0) == Ok(0xF4));
     ctx.accept(1);
     assert!(rt; ctx.point(&Point::Hlt).is_ok());
@@ -109,16 +141,12 @@ fn stores_take_effect_with_the_commit(rt: HostRuntime) {
     assert!(rt; ctx.store(SegName::Es, 0x100, 2, 0x2211).is_ok());
     // The step sees what it has stored.
     assert!(rt; ctx.load(SegName::Ds, 0x101, 1) == Ok(0x22));
-    let port = Access {
-        space: Space::Port,
-        write: false,
-        address: 0x60,
-        size: 1,
-        value: 0,
-    };
-    assert!(rt; ctx.device(port) == Ok(Answer::Val(0x60)));
+    assert!(rt; ctx.device(port(0x60)) == Ok(Answer::Val(0x60)));
     let cpu = *ctx.cpu();
-    ctx.commit(cpu);
+    assert!(rt; ctx.unused().is_none());
+    if ctx.unused().is_none() {
+        ctx.commit(cpu);
+    }
     assert!(rt; m.peek(0x100, &mut out).is_ok());
     assert!(rt; out == [0x11, 0x22]);
 }
@@ -130,7 +158,44 @@ fn hands_off_a_fetch_outside_ram(rt: HostRuntime) {
     cpu.rip = 0x1_0000;
     cpu.cs.limit = 0xF_FFFF;
     assert!(rt; m.set_cpu(cpu).is_ok());
-    let mut bus = Echo;
-    let mut ctx = Ctx::begin(&mut m, &NoHits, &mut bus);
+    let mut bus = always_ready();
+    let mut record = Record::new();
+    let mut ctx = Ctx::begin(&mut m, &NoHits, &mut bus, &mut record);
     assert!(rt; ctx.fetch(3) == Err(Stop::Handoff(Handoff::Fetch(0x1_0000))));
+}
+
+#[test]
+fn resumes_where_a_device_was_not_ready(rt: HostRuntime) {
+    let mut m = machine(rt.alloc()).expect(&rt, "memory");
+    let mut bus = Echo { ready: 1, waits: 0 };
+    let mut record = Record::new();
+    let mut ctx = Ctx::begin(&mut m, &NoHits, &mut bus, &mut record);
+    assert!(rt; ctx.device(port(0x60)) == Ok(Answer::Val(0x60)));
+    assert!(rt; ctx.device(port(0x61)) == Err(Stop::Pending(port(0x61))));
+    ctx.end(&Stop::Pending(port(0x61)));
+    assert!(rt; record.answers().len() == 1);
+    assert!(rt; record.asked() == Some(port(0x61)));
+
+    // The device that has answered isn't asked again.
+    bus.ready = 1;
+    let mut ctx = Ctx::begin(&mut m, &NoHits, &mut bus, &mut record);
+    assert!(rt; ctx.unused() == Some((0, port(0x60))));
+    assert!(rt; ctx.device(port(0x60)) == Ok(Answer::Val(0x60)));
+    assert!(rt; ctx.unused() == Some((1, port(0x61))));
+    let other = ctx.device(port(0x62));
+    assert!(rt;
+        other
+            == Err(Stop::Diverged(Diverged {
+                at: 1,
+                kept: port(0x61),
+                wanted: Some(port(0x62))
+            }))
+    );
+    assert!(rt; ctx.device(port(0x61)) == Ok(Answer::Val(0x61)));
+    assert!(rt; ctx.unused().is_none());
+    let cpu = *ctx.cpu();
+    if ctx.unused().is_none() {
+        ctx.commit(cpu);
+    }
+    assert!(rt; record.asked().is_none());
 }

@@ -1,4 +1,4 @@
-use Rattle.std.proofs.Common.{◌≡◌, ◌∙◌, sym, ap, refl, rules, true, false, length}
+use Rattle.std.proofs.Common.{◌≡◌, ◌∙◌, sym, ap, rules, true, false, length}
 use Rattle.xe_base.proofs.Ram.{length-bytes}
 use Rattle.xe_ctx.proofs.Work.{are_ram-patched}
 use Rattle.xe_ctx.proofs.Pieces.{piece_ram, piece_out}
@@ -18,4 +18,4 @@ returns-clause-size g c = ap length c.read.ensures ∙ length-bytes _ _ _
 pub returns-clause-part : goal.returns-clause-part
 returns-clause-part g c =
     let t : c.is_ram.result ≡ true = search rules in
-    λ at. piece_ram _ _ _ _ _ (are_ram-patched _ _ _ _ ∙ sym c.is_ram.ensures ∙ t) (c.read.ensures ∙ rw c.as_slice.ensures.value refl)
+    λ at. piece_ram _ _ _ _ _ (are_ram-patched _ _ _ _ ∙ sym c.is_ram.ensures ∙ t) c.read.ensures

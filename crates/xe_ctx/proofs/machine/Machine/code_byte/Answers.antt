@@ -1,7 +1,10 @@
-use Rattle.std.proofs.Common.{◌≡◌, sym, rules, arith, true, false, ◌∙◌}
-use Rattle.xe_ctx.proofs.MachineLaws.{code_outside, code_gives}
+use Rattle.std.proofs.Common.{◌≡◌, sym, rules, arith, true, false, ◌∙◌, ap, Err}
+use Rattle.xe_ctx.proofs.MachineLaws.{code_past, code_outside, code_gives}
 use Rattle.xe_ctx.proofs.Work.{are-from}
 use Rattle.xe_ctx.proofs.machine.Machine.code_byte.Goals as goal
+
+pub returns-then-offset-self : goal.returns-then-offset-self
+returns-then-offset-self c = ap Err c.fetch_fault.ensures ∙ code_past _ _ _ (omega arith) c.if-offset-self.true
 
 pub returns-then-not-is_ram : goal.returns-then-not-is_ram
 returns-then-not-is_ram c =
