@@ -1,5 +1,5 @@
 -- One command after another.
-use Rattle.std.proofs.Common.{◌≡◌, ℕ, ◌+◌, ◌-◌, ◌≤◌, Bool, true, false, if◌then◌else◌, arith, List, [], ◌∷◌, ◌++◌, Option, Some, None, Result, Ok, Err, OnOk, length, drop, refl, sym, ap, ◌∙◌}
+use Rattle.std.proofs.Common.{◌≡◌, ℕ, ◌+◌, ◌-◌, ◌≤◌, Bool, true, false, if◌then◌else◌, arith, List, [], ◌∷◌, ◌++◌, Option, Some, None, Result, Ok, Err, OnOk, length, drop, map, refl, sym, ap, ◌∙◌}
 use Rattle.std.specs.Prelude.{slice_get}
 use Rattle.std.proofs.lemmas.List.{drop_all}
 use Rattle.xe_base.specs.State.{broken, Valid, answer_of}
@@ -7,6 +7,8 @@ use Rattle.xe_base.specs.declared.cpu.BadState.{BadState}
 use Rattle.xe_base.specs.declared.access.Space.{Space}
 use Rattle.arrayvec.specs.ArrayVec.{ArrayVec}
 use Rattle.xe_mem.specs.declared.region.Region.{Region}
+use Rattle.xe_ctx.specs.Kept.{Kept, nothing}
+use Rattle.xe_ctx.specs.State.{State}
 use Rattle.xe_ctx.specs.Tape.{Key}
 use Rattle.xe_scene.specs.Queues.{key_of_queue}
 use Rattle.xe_scene.specs.Rooms.{items_for, fed_by}
@@ -25,8 +27,12 @@ use Rattle.xe_base.specs.Reset.{reset_state}
 use Rattle.xe_ctx.specs.Machine.{first_hole}
 use Rattle.xe_scene.specs.declared.command.Command.{Command}
 use Rattle.xe_run.specs.Text.{text, line_of}
-use Rattle.xe_run.specs.Drive.{World, Did, obeyed, drive_from, run_command, show_command, dump_command, memory_shown, shown, installed, poke_command, poked, turns, redrafted, start, drive}
+use Rattle.xe_run.specs.Drive.{World, Did, obeyed, drive_from, run_command, call_command, call_event, call_events, end_event, single_call, after_call, abandoned, show_command, dump_command, memory_shown, shown, installed, poke_command, poked, turns, redrafted, start, drive}
 use Rattle.xe_run.specs.declared.event.Event.TheVariants as events
+use Rattle.xe_ctx.specs.Call as calls
+use Rattle.xe_ctx.specs.Tape.{Tape}
+use Rattle.xe_ctx.specs.declared.report.Report.{Report}
+use Rattle.xe_run.proofs.TurnLaws.{call-shows}
 use Rattle.xe_run.proofs.TextLaws.{text-append, text-nil, text-one, next}
 
 -- the error, or another value where there is none
@@ -48,9 +54,18 @@ pub run-broken : (n : ℕ) (w : World) (rule : ℕ) → broken w.draft ≡ Some 
 unfolding run_command
 run-broken n w rule e = rw e refl
 
-run-valid : (n : ℕ) (w : World) → broken w.draft ≡ None → run_command n w ≡ record (turns n (installed w)) { after = redrafted (turns n (installed w)).after }
+run-valid : (n : ℕ) (w : World) → broken w.draft ≡ None → run_command n w ≡ record (turns n (abandoned (installed w))) { after = redrafted (turns n (abandoned (installed w))).after }
 unfolding run_command
 run-valid n w e = rw e refl
+
+-- a call with a draft that breaks a rule
+pub call-broken : (w : World) (rule : ℕ) → broken w.draft ≡ Some rule → call_command w ≡ record { events = events.BadState rule ∷ []; after = redrafted w }
+unfolding call_command
+call-broken w rule e = rw e refl
+
+pub call-valid : (w : World) → broken w.draft ≡ None → call_command w ≡ record { events = call_events w.draft w.kept (single_call (installed w)); after = redrafted (after_call (installed w) (single_call (installed w))) }
+unfolding call_command
+call-valid w e = rw e refl
 
 -- the registers of a draft that breaks a rule are not shown
 pub show-broken : (w : World) (rule : ℕ) → broken w.draft ≡ Some rule → show_command w ≡ record { events = events.BadState rule ∷ []; after = redrafted w }
@@ -104,12 +119,27 @@ unfolding error_or
 answered_err b None e = absurd (cc)
 answered_err b (Some n) e = ap (λ (r : Result (Unit {0}) BadState). Some (error_or b r).rule) (sym e)
 
+-- the world with the draft installed and nothing kept
+pub begun : (w : World) (m : State) (k : Kept) → m ≡ record w.machine { cpu = w.draft } → k ≡ nothing → record w { machine = m; kept = k } ≡ abandoned (installed w)
+begun w m k e h = rw (e, h) refl
+
 -- a run of a valid draft is its turns, from the machine with the draft installed
-pub run-events : (n : ℕ) (w v : World) → broken w.draft ≡ None → v ≡ installed w → (run_command n w).events ≡ (turns n v).events
+pub run-events : (n : ℕ) (w v : World) → broken w.draft ≡ None → v ≡ abandoned (installed w) → (run_command n w).events ≡ (turns n v).events
 run-events n w v e i = ap (λ (d : Did). d.events) (run-valid n w e) ∙ ap (λ (u : World). (turns n u).events) (sym i)
 
-pub run-after : (n : ℕ) (w v : World) → broken w.draft ≡ None → v ≡ installed w → (run_command n w).after ≡ redrafted (turns n v).after
+pub run-after : (n : ℕ) (w v : World) → broken w.draft ≡ None → v ≡ abandoned (installed w) → (run_command n w).after ≡ redrafted (turns n v).after
 run-after n w v e i = ap (λ (d : Did). d.after) (run-valid n w e) ∙ ap (λ (u : World). redrafted (turns n u).after) (sym i)
+
+-- a call of a valid draft is that of the machine with the draft installed
+pub call-goes-shows : (w v : World) (r : Report) (s : State) (left : Kept) (o : Option Tape) → broken w.draft ≡ None → v ≡ installed w → single_call v ≡ calls.reported r s left o
+    → (call_command w).events ≡ map call_event (drop (length w.kept.answers) r.accesses.items) ++ end_event w.draft s.cpu r.elements r.finished r.row r.outcome ∷ []
+call-goes-shows w v r s left o e i told =
+    ap (λ (d : Did). d.events) (call-valid w e)
+    ∙ ap (λ (u : World). call_events w.draft w.kept (single_call u)) (sym i)
+    ∙ call-shows v w.draft w.kept r s left o told
+
+pub call-goes-after : (w v : World) → broken w.draft ≡ None → v ≡ installed w → (call_command w).after ≡ redrafted (after_call v (single_call v))
+call-goes-after w v e i = ap (λ (d : Did). d.after) (call-valid w e) ∙ ap (λ (u : World). redrafted (after_call u (single_call u))) (sym i)
 
 -- a scene's events from its start
 pub drive-start : (w : World) (regions : List Region) (cs : List Command) → w ≡ start regions → text (drive_from w cs) ≡ text (drive regions cs)

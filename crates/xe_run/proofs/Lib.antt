@@ -1,8 +1,11 @@
 pub mod ChangeLaws
 pub mod ToldLaws
 pub mod TextLaws
+pub mod SettledLaws
+pub mod StepLaws
 pub mod TurnLaws
 pub mod DriveLaws
+pub mod ReasonLaws
 pub mod TopLaws
 pub mod HexLaws
 pub mod RowLaws

@@ -7,8 +7,11 @@ use Rattle.std.proofs.lemmas.Option.{slice_get_within, get_or_from_slice_get}
 use Rattle.std.proofs.lemmas.List.{drop_more, drop_all, take_all, append-nil}
 use Rattle.xe_base.specs.declared.access.Made.{Made}
 use Rattle.xe_run.specs.Text.{text, line_of}
-use Rattle.xe_run.specs.Drive.{io_event, memory_line, memory_shown}
+use Rattle.xe_run.specs.Drive.{io_event, call_event, memory_line, memory_shown}
+use Rattle.xe_run.specs.Reported.{count_at, with_waits_from}
+use Rattle.xe_run.specs.Turn.{counted}
 use Rattle.xe_run.specs.declared.event.Event.{Event}
+use Rattle.xe_run.specs.declared.event.Event.TheVariants as events
 
 pub text-append : (a b : List Event) → text (a ++ b) ≡ text a ++ text b
 unfolding text
@@ -29,12 +32,20 @@ text-one e = text-cons e [] ∙ ap (λ (x : List ℕ). line_of e ++ x) text-nil 
 pub next : {A : Type 0} (xs : List A) (i : ℕ) (x : A) → slice_get xs i ≡ Some x → drop i xs ≡ x ∷ drop (i + 1) xs
 next {A = A} xs i x e = drop_more xs i x (slice_get_within xs i x e) ∙ ap (λ (y : A). y ∷ drop (i + 1) xs) (get_or_from_slice_get xs i x x e)
 
-pub accesses-drop : (xs : List Made) (i : ℕ) (d : Made) (e : Event) → i < length xs → e ≡ io_event (get_or xs i d)
-    → text (map io_event (drop i xs)) ≡ line_of e ++ text (map io_event (drop (i + 1) xs))
-accesses-drop xs i d e lt h = rw (drop_more xs i d lt, h) (text-cons (io_event (get_or xs i d)) (map io_event (drop (i + 1) xs)))
+pub accesses-drop : (xs : List Made) (i : ℕ) (d : Made) (e : Event) → i < length xs → e ≡ call_event (get_or xs i d)
+    → text (map call_event (drop i xs)) ≡ line_of e ++ text (map call_event (drop (i + 1) xs))
+accesses-drop xs i d e lt h = rw (drop_more xs i d lt, h) (text-cons (call_event (get_or xs i d)) (map call_event (drop (i + 1) xs)))
 
-pub accesses-past : (xs : List Made) (i : ℕ) → length xs ≤ i → text (map io_event (drop i xs)) ≡ []
+pub accesses-past : (xs : List Made) (i : ℕ) → length xs ≤ i → text (map call_event (drop i xs)) ≡ []
 accesses-past xs i le = rw (drop_all i xs le) text-nil
+
+pub waited-drop : (xs : List Made) (counts : List ℕ) (i : ℕ) (d : Made) (e : Event) → i < length xs → e ≡ events.Io (get_or xs i d) (counted (count_at counts i))
+    → text (map io_event (with_waits_from i (drop i xs) counts)) ≡ line_of e ++ text (map io_event (with_waits_from (i + 1) (drop (i + 1) xs) counts))
+waited-drop xs counts i d e lt h =
+    rw (drop_more xs i d lt, h) (text-cons (events.Io (get_or xs i d) (counted (count_at counts i))) (map io_event (with_waits_from (i + 1) (drop (i + 1) xs) counts)))
+
+pub waited-past : (xs : List Made) (counts : List ℕ) (i : ℕ) → length xs ≤ i → text (map io_event (with_waits_from i (drop i xs) counts)) ≡ []
+waited-past xs counts i le = rw (drop_all i xs le) text-nil
 
 pub events-drop : (es : List Event) (i : ℕ) (d e : Event) → i < length es → e ≡ get_or es i d → text (drop i es) ≡ line_of e ++ text (drop (i + 1) es)
 events-drop es i d e lt h = rw (drop_more es i d lt, h) (text-cons (get_or es i d) (drop (i + 1) es))
@@ -73,3 +84,7 @@ memory-piece bytes start end le e =
           let l : length (drop start bytes) ≤ 16 = omega (arith, length-drop start bytes) in
           take_all (end - start) (drop start bytes) k ∙ sym (take_all 16 (drop start bytes) l))
     ]
+
+-- the text of some lines before the last
+pub text-snoc : (es : List Event) (e : Event) → text (es ++ e ∷ []) ≡ text es ++ line_of e
+text-snoc es e = text-append es (e ∷ []) ∙ ap (λ (x : List ℕ). text es ++ x) (text-one e)

@@ -7,7 +7,7 @@ use Rattle.xe_scene.specs.declared.reason.Reason.TheVariants.{TooLong}
 use Rattle.std.proofs.lemmas.Bool.Decides.{nat_tests}
 use Rattle.std.proofs.lemmas.Bool.{cases_lt}
 use Rattle.xe_run.specs.Told.{followed_by, preceded_by, Rose, Quiet}
-use Rattle.xe_scene.specs.Draft.{Draft}
+use Rattle.xe_scene.specs.Content.{Content}
 use Rattle.xe_scene.specs.Scene.{Bad, scene, scene_within, text_most, bad_line, is_newline, lines_say, lines_of, nothing}
 use Rattle.xe_run.specs.Output.{Output, Answers, answer, output, mode_of, usage}
 use Rattle.xe_run.specs.declared.mode.Mode.{Mode}
@@ -54,7 +54,7 @@ pub scene_of_all : (text rest : List ℕ) → length text ≤ text_most + 1 → 
 scene_of_all text rest bounded ended = within_of_all text_most text rest bounded ended
 
 -- what holds of the scene of what was read holds of the scene of all that was left
-pub all_of : (P : Result Draft Bad → Type 0) (left rest : Option (List ℕ)) (text now : List ℕ) → now ≡ text → left ≡ preceded_by text rest
+pub all_of : (P : Result Content Bad → Type 0) (left rest : Option (List ℕ)) (text now : List ℕ) → now ≡ text → left ≡ preceded_by text rest
     → length text ≤ text_most + 1 → (length text < text_most + 1 → IfSome rest (λ r. r ≡ [])) → P (scene now) → IfSome left (λ all. P (scene all))
 all_of P left None text now same taken bounded ended h = rw taken tt
 all_of P left (Some r) text now same taken bounded ended h = rw taken (subst P (ap scene same ∙ sym (scene_of_all text r bounded ended)) h)

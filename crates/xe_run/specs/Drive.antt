@@ -1,5 +1,5 @@
--- The events of a scene: its commands one after another, over a machine, the draft of its registers, and the script of its
--- devices. Nothing else is kept between the steps. This project's choice.
+-- The events of a scene: its commands one after another, over a machine, the draft of its registers, the script of its devices, and what
+-- `call` has kept of a suspended step. Nothing else is kept between the steps. This project's choice.
 use Rattle.std.specs.Prelude.{ℕ, zero, suc, ◌+◌, ◌*◌, ◌/◌, ◌%◌, ◌^◌, ◌==◌, not, slice_set, List, [], ◌∷◌, ◌++◌, length, map, take, drop, Bool, false, if◌then◌else◌, Option, Some, None}
 use Rattle.std.specs.List.{range_with_len}
 use Rattle.xe_base.specs.Ram.{bytes_of, put_bytes}
@@ -17,13 +17,14 @@ use Rattle.xe_opmap.specs.declared.row.Row.{Row}
 use Rattle.xe_ctx.specs.State.{State}
 use Rattle.xe_ctx.specs.Machine.{first_hole}
 use Rattle.xe_ctx.specs.Tape.{Tape, empty_tape, begun}
-use Rattle.xe_ctx.specs.Step.{Stepped, Ends, Wants, Ended}
+use Rattle.xe_ctx.specs.Kept.{Kept, nothing}
+use Rattle.xe_ctx.specs.Call.{Call, one_call}
 use Rattle.xe_ctx.specs.declared.report.Outcome.{Outcome}
 use Rattle.xe_ctx.specs.declared.report.Outcome.TheVariants as ends
-use Rattle.xe_core.specs.Emulate.{one_call}
+use Rattle.xe_core.specs.Emulate.{step_of}
 use Rattle.xe_scene.specs.Script.{with_device}
 use Rattle.xe_scene.specs.declared.command.Command.{Command}
-use Rattle.xe_scene.specs.declared.command.Command.TheVariants.{Reg, Seg as SetSegment, Table as SetTable, Poke, Dev, Run, Show, Dump}
+use Rattle.xe_scene.specs.declared.command.Command.TheVariants.{Reg, Seg as SetSegment, Table as SetTable, Poke, Dev, Run, Call as CallOnce, Show, Dump}
 use Rattle.xe_scene.specs.declared.command.RegName.{RegName}
 use Rattle.xe_scene.specs.declared.command.RegName.TheVariants.{Rax, Rcx, Rdx, Rbx, Rsp, Rbp, Rsi, Rdi, R8, R9, R10, R11, R12, R13, R14, R15, Rip, Rflags, Cr0, Cr2, Cr3, Cr4, Cr8, Efer, Kgs, Cpl}
 use Rattle.xe_scene.specs.declared.command.SegReg.{SegReg}
@@ -32,12 +33,14 @@ use Rattle.xe_scene.specs.declared.command.DtName.{DtName}
 use Rattle.xe_scene.specs.declared.command.DtName.TheVariants.{Gdtr, Idtr}
 use Rattle.xe_run.specs.declared.event.Event.{Event}
 use Rattle.xe_run.specs.declared.event.Event.TheVariants as events
+use Rattle.xe_run.specs.Turn.{Answered, Turn, turn_over}
 
--- what a run goes through: the machine, the draft of its registers, and the script
+-- what a run goes through: the machine, the draft of its registers, the script, and what a call has kept
 pub record World : Type 0 where
   pub machine : State
   pub draft : Cpu
   pub tape : Tape
+  pub kept : Kept
 
 -- what something shows, and the world after it
 pub record Did : Type 0 where
@@ -48,25 +51,33 @@ pub record Did : Type 0 where
 abbrev pub silent : World → Did
 silent w = record { events = []; after = w }
 
--- ---- a turn, which is one step for now
+-- nothing is intercepted
+abbrev pub no_exits : Point → Option Exit
+no_exits = λ _. None
 
--- a device access of a step; no reply of "not yet" comes before it for now
-abbrev pub io_event : Made → Event
-io_event made = events.Io made 0
+-- ---- turns and calls
 
--- how a turn ended: the last finished step with the count of steps and the registers before and after them, or what ended the last one
+-- a device access, and how often its device wasn't ready before
+abbrev pub io_event : Answered → Event
+io_event a = events.Io a.made a.waits
+
+-- how a turn or a call ended: the last finished step with the count of steps and the registers before and after them, or what ended the
+-- last one
 abbrev pub end_event : Cpu → Cpu → ℕ → Option Row → Option Row → Outcome → Event
 end_event before after count finished row (ends.Done more retire) = events.Step finished count before after retire
+end_event before after count finished row (ends.Pending access) = events.Pending row access
 end_event before after count finished row (ends.Fault fault) = events.Fault row fault
 end_event before after count finished row (ends.Intercept exit) = events.Exit row exit
 end_event before after count finished row (ends.Event kind vector next) = events.Interrupt row kind vector next
 end_event before after count finished row (ends.Handoff handoff) = events.Handoff row handoff
 end_event before after count finished row ends.Unhandled = events.Unhandled
+end_event before after count finished row (ends.BusFault access) = events.BusFault row access
+end_event before after count finished row (ends.Diverged at kept wanted) = events.Diverged row at kept wanted
 end_event before after count finished row (ends.Unbuilt unbuilt) = events.Unbuilt unbuilt
 
--- the accesses of the step, and then how it ended
-abbrev pub turn_events : Cpu → Ended → List Event
-turn_events before e = map io_event e.made ++ end_event before e.state.cpu 1 e.row e.row e.outcome ∷ []
+-- the accesses of the last step that were answered, and then how the turn ended
+abbrev pub turn_events : Cpu → Turn → List Event
+turn_events before t = map io_event t.accesses ++ end_event before t.state.cpu t.steps t.finished t.row t.outcome ∷ []
 
 -- the processor halts: bit 2 of what retirement brings with it, which HLT alone sets
 abbrev pub is_halt : ℕ → Bool
@@ -75,48 +86,54 @@ is_halt retire = retire / 4 % 2 == 1
 -- a run goes on after a step that finished, unless that was HLT
 abbrev pub goes_on_after : Outcome → Bool
 goes_on_after (ends.Done more retire) = not (is_halt retire)
+goes_on_after (ends.Pending access) = false
 goes_on_after (ends.Fault fault) = false
 goes_on_after (ends.Intercept exit) = false
 goes_on_after (ends.Event kind vector next) = false
 goes_on_after (ends.Handoff handoff) = false
 goes_on_after ends.Unhandled = false
+goes_on_after (ends.BusFault access) = false
+goes_on_after (ends.Diverged at kept wanted) = false
 goes_on_after (ends.Unbuilt unbuilt) = false
 
--- what a turn shows, whether the run goes on, and the world after it
-pub record Turn : Type 0 where
-  pub events : List Event
-  pub goes_on : Bool
-  pub after : World
+-- one turn, over the script with an empty log
+unfoldable pub turn : World → Turn
+turn w = turn_over w.machine (step_of w.machine no_exits) (begun w.tape)
+
+-- the world after a turn
+abbrev pub turned : World → Turn → World
+turned w t = record w { machine = t.state; tape = t.tape }
+
+-- a turn, and what follows it where the run goes on
+abbrev pub and_then : World → Turn → Did → Did
+and_then w t rest =
+    if goes_on_after t.outcome then record { events = turn_events w.machine.cpu t ++ rest.events; after = rest.after }
+    else record { events = turn_events w.machine.cpu t; after = turned w t }
+
+-- turns until so many steps finished, or the run ends before
+unfoldable pub turns : ℕ → World → Did
+turns zero w = silent w
+turns (suc n) w = and_then w (turn w) (turns n (turned w (turn w)))
+
+-- an access that a call answered; it asks for each access once
+abbrev pub call_event : Made → Event
+call_event made = events.Io made 0
+
+-- the accesses that were answered in this call, which stand behind those that were kept before, and then how it ended
+abbrev pub call_events : Cpu → Kept → Call → List Event
+call_events before kept c = map call_event (drop (length kept.answers) c.accesses) ++ end_event before c.state.cpu c.elements c.finished c.row c.outcome ∷ []
 
 abbrev pub script_left : Option Tape → Tape → Tape
 script_left None t = t
 script_left (Some u) t = u
 
--- a script answers each access, so that a turn over one always ends
-abbrev pub turn_of : World → Stepped → Turn
-turn_of w (Ends e) = record {
-  events = turn_events w.machine.cpu e;
-  goes_on = goes_on_after e.outcome;
-  after = record w { machine = e.state; tape = script_left e.rest.tape w.tape };
-}
-turn_of w (Wants a made) = record { events = []; goes_on = false; after = w }
+-- the world after a call, which keeps what its step needs to go on
+abbrev pub after_call : World → Call → World
+after_call w c = record w { machine = c.state; tape = script_left c.tape w.tape; kept = c.kept }
 
--- nothing is intercepted
-abbrev pub no_exits : Point → Option Exit
-no_exits = λ _. None
-
--- one turn, over the script with an empty log
-unfoldable pub turn : World → Turn
-turn w = turn_of w (one_call w.machine no_exits (begun w.tape))
-
--- a turn, and what follows it where the run goes on
-abbrev pub and_then : Turn → Did → Did
-and_then t rest = if t.goes_on then record { events = t.events ++ rest.events; after = rest.after } else record { events = t.events; after = t.after }
-
--- turns until so many steps finished, or the run ends before
-unfoldable pub turns : ℕ → World → Did
-turns zero w = silent w
-turns (suc n) w = and_then (turn w) (turns n (turn w).after)
+-- one call, over the script with an empty log
+unfoldable pub single_call : World → Call
+single_call w = one_call (step_of w.machine no_exits) w.machine w.kept (begun w.tape)
 
 -- ---- the commands
 
@@ -133,9 +150,17 @@ abbrev pub with_draft : Option ℕ → World → Did → Did
 with_draft (Some rule) w did = record { events = events.BadState rule ∷ []; after = redrafted w }
 with_draft None w did = did
 
--- a run installs the draft first, and the draft is the machine's state after it
+-- a suspended step is given up
+abbrev pub abandoned : World → World
+abandoned w = record w { kept = nothing }
+
+-- a run installs the draft first and gives up a suspended step, and the draft is the machine's state after it
 unfoldable pub run_command : ℕ → World → Did
-run_command n w = with_draft (broken w.draft) w (let did = turns n (installed w) in record did { after = redrafted did.after })
+run_command n w = with_draft (broken w.draft) w (let did = turns n (abandoned (installed w)) in record did { after = redrafted did.after })
+
+-- a call installs the draft first, too, but goes on with a suspended step
+unfoldable pub call_command : World → Did
+call_command w = with_draft (broken w.draft) w (let v = installed w in record { events = call_events v.machine.cpu v.kept (single_call v); after = redrafted (after_call v (single_call v)) })
 
 -- all registers, line by line
 unfoldable pub shown : Cpu → List Event
@@ -239,6 +264,7 @@ obeyed w (SetTable name base limit) = drafted w (with_table name (record { base 
 obeyed w (Poke pa bytes) = poke_command pa bytes.items w
 obeyed w (Dev space dir address items) = silent (record w { tape = with_device w.tape space dir address items.items })
 obeyed w (Run steps) = run_command steps w
+obeyed w CallOnce = call_command w
 obeyed w Show = show_command w
 obeyed w (Dump pa len) = dump_command pa len w
 
@@ -247,9 +273,9 @@ unfoldable pub drive_from : World → List Command → List Event
 drive_from w [] = []
 drive_from w (c ∷ cs) = (obeyed w c).events ++ drive_from (obeyed w c).after cs
 
--- RAM of zeros, the registers of a reset, and empty queues
+-- RAM of zeros, the registers of a reset, empty queues, and no suspended step
 abbrev pub start : List Region → World
-start regions = record { machine = record { cpu = reset_state; ram = zeroed regions }; draft = reset_state; tape = empty_tape }
+start regions = record { machine = record { cpu = reset_state; ram = zeroed regions }; draft = reset_state; tape = empty_tape; kept = nothing }
 
 -- the events of a scene
 unfoldable pub drive : List Region → List Command → List Event

@@ -1,6 +1,7 @@
 -- The driver as the world that it is, and the room of its queues.
 use Rattle.std.specs.Prelude.{◌≡◌, ◌≤◌, ◌-◌, List}
 use Rattle.xe_ctx.specs.Machine.{state_of}
+use Rattle.xe_ctx.specs.Recorded.{kept_of}
 use Rattle.xe_ctx.specs.Tape.{Key}
 use Rattle.xe_scene.specs.Script.{tape_of, spare_of}
 use Rattle.xe_scene.specs.Rooms.{items_for, fed_by}
@@ -10,7 +11,7 @@ use Rattle.xe_run.specs.declared.driver.Driver.{Driver}
 
 -- what the driver goes through
 abbrev pub world : Driver → World
-world d = record { machine = state_of d.machine; draft = d.draft; tape = tape_of d.bus }
+world d = record { machine = state_of d.machine; draft = d.draft; tape = tape_of d.bus; kept = kept_of d.suspended }
 
 -- the queues have room for the items of these commands
 abbrev pub HasRoomFor : Driver → List Command → Type 0

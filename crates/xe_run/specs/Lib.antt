@@ -3,8 +3,10 @@ pub mod Memory
 pub mod Changes
 pub mod Shown
 pub mod Text
-pub mod Drive
+pub mod Settled
 pub mod Turn
+pub mod Drive
+pub mod Reported
 pub mod Driver
-pub mod Driving
+pub mod Plays
 pub mod Output

@@ -2,7 +2,7 @@
 use Rattle.std.specs.Prelude.{◌≡◌, ℕ, List, [], ◌∷◌, ◌++◌, Option, Some, None, Result, Ok, Err, codes, if◌then◌else◌}
 use Rattle.std.specs.Str.{bytes_eq}
 use Rattle.xe_run.specs.Told.{followed_by, FollowedByFront}
-use Rattle.xe_scene.specs.Draft.{Draft}
+use Rattle.xe_scene.specs.Content.{Content}
 use Rattle.xe_scene.specs.Scene.{Bad, scene}
 use Rattle.xe_run.specs.Text.{text, refusal_text}
 use Rattle.xe_run.specs.Drive.{drive}
@@ -25,12 +25,12 @@ mode_of (word ∷ []) = mode_named word
 mode_of (word ∷ other ∷ more) = None
 
 -- the bytes for a scene: its trace, or that it is accepted
-abbrev pub accepted : Mode → Draft → List ℕ
+abbrev pub accepted : Mode → Content → List ℕ
 accepted modes.Run scene = text (drive scene.regions scene.commands)
 accepted modes.Check scene = codes "ok" ++ 10 ∷ []
 
 -- what a text gives: what its scene gives, or the line of its first bad line
-abbrev pub answer : Mode → Result Draft Bad → Output
+abbrev pub answer : Mode → Result Content Bad → Output
 answer mode (Ok scene) = record { bytes = accepted mode scene; status = status.Ok }
 answer mode (Err bad) = record { bytes = refusal_text bad.number bad.reason; status = status.Refused }
 

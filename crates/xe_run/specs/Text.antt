@@ -1,5 +1,5 @@
 -- What is printed: the events of a run, and their lines. This project's choice.
-use Rattle.std.specs.Prelude.{ℕ, ◌==◌, Bool, true, false, if◌then◌else◌, List, [], ◌∷◌, ◌++◌, Option, Some, None, codes}
+use Rattle.std.specs.Prelude.{ℕ, ◌==◌, ◌≤◌, Bool, true, false, if◌then◌else◌, List, [], ◌∷◌, ◌++◌, Option, Some, None, codes}
 use Rattle.std.specs.List.{flat_map}
 use Rattle.std.specs.Fmt.{decimal}
 use Rattle.xe_base.specs.declared.access.Space.{Space}
@@ -50,6 +50,15 @@ value_text a (Val v) = hex (if a.write then a.value else v)
 -- an access that was answered
 unfoldable pub made_text : Made → List ℕ
 made_text m = place_text m.access ++ space ++ value_text m.access m.answer
+
+-- an access with its own value: what is to be written, and 0 for a read
+unfoldable pub access_text : Access → List ℕ
+access_text a = place_text a ++ space ++ hex a.value
+
+-- an access, or a dash
+abbrev pub maybe_access : Option Access → List ℕ
+maybe_access None = codes "-"
+maybe_access (Some a) = access_text a
 
 -- the instruction's name, or a dash where it isn't known
 abbrev pub row_text : Option Row → List ℕ
@@ -111,6 +120,10 @@ line_of (events.Io made waits) = codes "io " ++ made_text made ++ space ++ decim
 line_of (events.Step row count before after retire) =
     codes "step " ++ row_text row ++ space ++ decimal count ++ codes " rip=" ++ hex after.rip ++ codes " flags=" ++ hex after.rflags
     ++ changes before after ++ retire_text retire ++ newline
+line_of (events.Pending row access) = codes "pending " ++ row_text row ++ space ++ access_text access ++ newline
+line_of (events.BusFault row access) = codes "busfault " ++ row_text row ++ space ++ access_text access ++ newline
+line_of (events.Diverged row at kept wanted) =
+    codes "diverged " ++ row_text row ++ space ++ hex at ++ space ++ access_text kept ++ space ++ maybe_access wanted ++ newline
 line_of (events.Fault row fault) = codes "fault " ++ row_text row ++ space ++ fault_text fault ++ newline
 line_of (events.Handoff row handoff) = codes "handoff " ++ row_text row ++ space ++ handoff_text handoff ++ newline
 line_of (events.Exit row exit) = codes "exit " ++ row_text row ++ space ++ exit_text exit ++ newline
@@ -145,7 +158,12 @@ reason_text reason =
     (if reason == 11 then codes "too much ram" else
     (if reason == 12 then codes "late ram" else
     (if reason == 13 then codes "too many" else
-    (if reason == 14 then codes "too long" else codes "not built")))))))))))))
+    (if reason == 14 then codes "too long" else
+    (if reason == 15 then codes "not built" else []))))))))))))))
+
+-- the numbers of the reasons
+abbrev pub IsReason : ℕ → Type 0
+IsReason reason = (1 ≤ reason) × (reason ≤ 15)
 
 -- the line of a text that is refused
 unfoldable pub refusal_text : ℕ → ℕ → List ℕ

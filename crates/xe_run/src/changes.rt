@@ -27,7 +27,8 @@ pub(crate) fn general_name(number: usize) -> &'static [u8]
         12 => b"r12",
         13 => b"r13",
         14 => b"r14",
-        _ => b"r15",
+        15 => b"r15",
+        _ => unreachable!(),
     }
 }
 

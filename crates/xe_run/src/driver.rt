@@ -1,80 +1,47 @@
-//! Obeying the commands of a scene over a machine and its scripted devices.
-ghost use Rattle.std.specs.Prelude.{◌≡◌, ◌≤◌, List, All, IfOk, OnOk, OnErr};
+//! The driver: it obeys the commands of a scene, over a machine and its scripted devices.
+ghost use Rattle.std.specs.Prelude.{◌≡◌, ◌≤◌, ◌<◌, ◌+◌, ℕ, List, All, IfOk, OnOk, OnErr, Some, length};
 ghost use Rattle.xe_base.specs.State.{Valid};
 ghost use Rattle.xe_mem.specs.Layout.{IsLayout, zeroed};
+ghost use Rattle.xe_ctx.specs.Call as calls;
+ghost use Rattle.xe_ctx.specs.Kept.{nothing};
 ghost use Rattle.xe_ctx.specs.Machine.{state_of};
+ghost use Rattle.xe_ctx.specs.Recorded.{kept_of};
 ghost use Rattle.xe_scene.specs.Formed.{IsFormed, IsItemFor};
 ghost use Rattle.xe_scene.specs.Script.{tape_of, with_device};
 ghost use Rattle.xe_run.specs.Told.{Rose, Writes};
 ghost use Rattle.xe_run.specs.Text.{text, line_of};
 ghost use Rattle.xe_run.specs.Drive as spec;
 ghost use Rattle.xe_run.specs.Driver.{world, HasRoomFor, HasRoomOf, SameRoom, Feeds};
-ghost use Rattle.xe_run.specs.Turn.{reported_events, IsTold};
+ghost use Rattle.xe_run.specs.Reported.{reported};
 
-use crate::drafts::{shown, with_register, with_segment, with_table};
 use crate::event::Event;
 use crate::outside::{Failed, Sink};
-use crate::print::{print, print_accesses, print_all, print_memory};
+use crate::print::{print, print_all, print_memory};
+use crate::registers::{shown, with_register, with_segment, with_table};
+use crate::turn::{goes_on, is_pending, note_wait, tell_call, tell_turn};
 use arrayvec::ArrayVec;
 use std::alloc::Global;
 use xe_base::{Cpu, NoMemory, Seg, Space, Table};
-use xe_core::emulate;
-use xe_ctx::{Machine, Outcome, Report};
+use xe_core::emulate_into;
+use xe_ctx::{Machine, Record, Report};
 use xe_icpt::NoHits;
 use xe_mem::{GuestMem, MemFault, Region};
 use xe_scene::{Command, Commands, Dir, Item, Scene, ScriptBus};
 
-/// A machine with the devices that a scene scripts, and the draft of its registers.
+/// A machine with the devices that a scene scripts, the draft of its registers, and what `call` has kept
+/// of a suspended step.
+///
+/// The report and the counts are those of the last turn or call. They stay from one to the next and
+/// are emptied, since to make them anew would cost more than a step.
 #[derive(Drop)]
 pub(crate) struct Driver {
     pub(crate) machine: Machine,
     pub(crate) draft: Cpu,
     pub(crate) bus: ScriptBus,
-}
-
-/// How a turn ended, as an event.
-fn end_event(report: &Report, before: &Cpu, after: &Cpu) -> Event
-    ensures { result ≡ spec.end_event before.now after.now report.now.elements report.now.finished report.now.row report.now.outcome }
-{
-    match report.outcome {
-        Outcome::Done { retire, .. } => Event::Step {
-            row: report.finished,
-            count: report.elements,
-            before: *before,
-            after: *after,
-            retire,
-        },
-        Outcome::Fault(fault) => Event::Fault {
-            row: report.row,
-            fault,
-        },
-        Outcome::Intercept(exit) => Event::Exit {
-            row: report.row,
-            exit,
-        },
-        Outcome::Event { kind, vector, next } => Event::Interrupt {
-            row: report.row,
-            kind,
-            vector,
-            next,
-        },
-        Outcome::Handoff(handoff) => Event::Handoff {
-            row: report.row,
-            handoff,
-        },
-        Outcome::Unhandled => Event::Unhandled,
-        Outcome::Unbuilt(row) => Event::Unbuilt(row),
-    }
-}
-
-/// Whether a run goes on after a turn that ended so: after HLT it doesn't.
-fn goes_on(outcome: &Outcome) -> bool
-    ensures { result ≡ spec.goes_on_after outcome.now }
-{
-    match outcome {
-        Outcome::Done { retire, .. } => *retire / 4 % 2 != 1,
-        _ => false,
-    }
+    pub(crate) suspended: Record,
+    pub(crate) report: Report,
+    /// How often each access of the turn wasn't ready, by its place in the step; 0 behind the last.
+    pub(crate) waits: ArrayVec<u64, 256>,
 }
 
 /// The RAM of regions that a scene may have, so that memory alone can be refused.
@@ -100,17 +67,6 @@ fn machine_with(ram: GuestMem, cpu: Cpu) -> Machine
     }
 }
 
-/// Writes the lines of a turn.
-#[tactic(auto)]
-fn tell_turn<K: Sink>(report: &Report, before: &Cpu, after: &Cpu, out: &mut K) -> Result<(), Failed>
-    ensures writes { Writes result (K.written out.old) (text (reported_events before.now after.now report.now)) (K.written out.new) }
-    ensures count { K.faults out.old ≤ K.faults out.new }
-    ensures failed { OnErr result (Rose (K.faults out.old) (K.faults out.new)) }
-{
-    print_accesses(report.accesses.as_slice(), out)?;
-    print(&end_event(report, before, after), out)
-}
-
 impl Driver {
     /// A machine with the RAM of a scene and the registers of a reset, and its devices.
     pub(crate) fn new(alloc: Global, scene: &Scene) -> Result<Driver, NoMemory>
@@ -125,35 +81,67 @@ impl Driver {
             machine,
             draft,
             bus,
+            suspended: Record::new(),
+            report: Report::new(),
+            waits: ArrayVec::new(),
         })
     }
 
-    /// One step over the script with an empty log.
-    fn call(&mut self) -> Report
-        ensures told { IsTold (world self.old) result (world self.new) }
+    /// One step over the script with an empty log. It is called again after each device that isn't ready,
+    /// and goes on from the answers that it has; one whose device fails is given up.
+    fn step(&mut self)
+        requires { kept_of self.old.suspended ≡ nothing }
+        ensures turn { spec.turn (world self.old) ≡ reported self.new.report self.new.waits.items (state_of self.new.machine) (tape_of self.new.bus) }
+        ensures draft { self.new.draft ≡ self.old.draft }
+        ensures kept { kept_of self.new.suspended ≡ nothing }
         ensures room { SameRoom self.old self.new }
     {
         self.bus.begin();
-        emulate(&mut self.machine, &NoHits, &mut self.bus)
+        self.waits.clear();
+        'asking: loop {
+            emulate_into(
+                &mut self.machine,
+                &NoHits,
+                &mut self.bus,
+                &mut self.suspended,
+                1,
+                &mut self.report,
+            );
+            if !is_pending(&self.report) {
+                break;
+            }
+            let at = self.suspended.answers().len();
+            note_wait(&mut self.waits, at);
+        }
+        self.suspended.abandon();
     }
 
     /// One turn with its lines; answers whether the run goes on.
     fn turn<K: Sink>(&mut self, out: &mut K) -> Result<bool, Failed>
-        ensures goes_on { IfOk result (λ b. b ≡ (spec.turn (world self.old)).goes_on) }
-        ensures after { OnOk result (world self.new ≡ (spec.turn (world self.old)).after) }
-        ensures writes { Writes result (K.written out.old) (text (spec.turn (world self.old)).events) (K.written out.new) }
+        requires { kept_of self.old.suspended ≡ nothing }
+        ensures goes_on { IfOk result (λ b. b ≡ spec.goes_on_after (spec.turn (world self.old)).outcome) }
+        ensures after { OnOk result (world self.new ≡ spec.turned (world self.old) (spec.turn (world self.old))) }
+        ensures writes { Writes result (K.written out.old) (text (spec.turn_events (world self.old).machine.cpu (spec.turn (world self.old)))) (K.written out.new) }
+        ensures kept { kept_of self.new.suspended ≡ nothing }
         ensures room { SameRoom self.old self.new }
         ensures count { K.faults out.old ≤ K.faults out.new }
         ensures failed { OnErr result (Rose (K.faults out.old) (K.faults out.new)) }
     {
         let before = *self.machine.cpu();
-        let report = self.call();
-        tell_turn(&report, &before, self.machine.cpu(), out)?;
-        Ok(goes_on(&report.outcome))
+        self.step();
+        tell_turn(
+            &self.report,
+            self.waits.as_slice(),
+            &before,
+            self.machine.cpu(),
+            out,
+        )?;
+        Ok(goes_on(&self.report.outcome))
     }
 
     /// Turns until so many steps finished, or the run ends before.
     fn turns<K: Sink>(&mut self, steps: u64, out: &mut K) -> Result<(), Failed>
+        requires { kept_of self.old.suspended ≡ nothing }
         ensures after { OnOk result (world self.new ≡ (spec.turns steps (world self.old)).after) }
         ensures writes { Writes result (K.written out.old) (text (spec.turns steps (world self.old)).events) (K.written out.new) }
         ensures room { SameRoom self.old self.new }
@@ -188,7 +176,7 @@ impl Driver {
         print(&Event::BadState(rule), out)
     }
 
-    /// Installs the draft and runs so many steps.
+    /// Installs the draft, gives up a suspended step, and runs so many steps.
     fn run<K: Sink>(&mut self, steps: u64, out: &mut K) -> Result<(), Failed>
         ensures after { OnOk result (world self.new ≡ (spec.run_command steps (world self.old)).after) }
         ensures writes { Writes result (K.written out.old) (text (spec.run_command steps (world self.old)).events) (K.written out.new) }
@@ -198,7 +186,49 @@ impl Driver {
     {
         match self.machine.set_cpu(self.draft) {
             Ok(()) => {
+                self.suspended.abandon();
                 self.turns(steps, out)?;
+                self.redraft();
+                Ok(())
+            }
+            Err(bad) => self.refuse(bad.rule, out),
+        }
+    }
+
+    /// One call over the script with an empty log, which goes on with a suspended step; answers how
+    /// many answers that step had.
+    fn call_once(&mut self) -> usize
+        ensures kept { result ≡ length (kept_of self.old.suspended).answers }
+        ensures called { spec.single_call (world self.old) ≡ calls.reported self.new.report (state_of self.new.machine) (kept_of self.new.suspended) (Some (tape_of self.new.bus)) }
+        ensures after { world self.new ≡ spec.after_call (world self.old) (spec.single_call (world self.old)) }
+        ensures draft { self.new.draft ≡ self.old.draft }
+        ensures room { SameRoom self.old self.new }
+    {
+        let kept = self.suspended.answers().len();
+        self.bus.begin();
+        emulate_into(
+            &mut self.machine,
+            &NoHits,
+            &mut self.bus,
+            &mut self.suspended,
+            1,
+            &mut self.report,
+        );
+        kept
+    }
+
+    /// Installs the draft and makes one call, with its lines.
+    fn call<K: Sink>(&mut self, out: &mut K) -> Result<(), Failed>
+        ensures after { OnOk result (world self.new ≡ (spec.call_command (world self.old)).after) }
+        ensures writes { Writes result (K.written out.old) (text (spec.call_command (world self.old)).events) (K.written out.new) }
+        ensures room { SameRoom self.old self.new }
+        ensures count { K.faults out.old ≤ K.faults out.new }
+        ensures failed { OnErr result (Rose (K.faults out.old) (K.faults out.new)) }
+    {
+        match self.machine.set_cpu(self.draft) {
+            Ok(()) => {
+                let kept = self.call_once();
+                tell_call(&self.report, kept, &self.draft, self.machine.cpu(), out)?;
                 self.redraft();
                 Ok(())
             }
@@ -300,6 +330,7 @@ impl Driver {
                 Ok(())
             }
             Command::Run(steps) => self.run(*steps, out),
+            Command::Call => self.call(out),
             Command::Show => self.show(out),
             Command::Dump(pa, len) => self.dump(*pa, *len, out),
         }

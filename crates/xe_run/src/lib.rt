@@ -2,21 +2,26 @@
 //! their text, and the top call.
 #![tactic(auto)]
 
+mod access_text;
 mod adapters;
 mod changes;
-mod drafts;
 mod driver;
-mod driving;
+mod end_text;
 mod event;
+mod event_lines;
 mod line;
 mod memory;
 mod mode;
 mod outside;
+mod play;
 mod print;
-mod reading;
+mod refusal;
+mod registers;
 mod shown;
 mod status;
 mod top;
+mod turn;
+mod whole_text;
 
 pub use adapters::{ReaderSource, WriterSink};
 pub use memory::{ListSource, SteadySource, VecSink};

@@ -3,7 +3,9 @@ ghost use Rattle.std.specs.Prelude.{◌≡◌, ◌*◌, ◌≤◌, List, map, le
 ghost use Rattle.xe_run.specs.Told.{Rose, Writes};
 ghost use Rattle.xe_run.specs.Text.{text};
 ghost use Rattle.xe_run.specs.Text as texts;
+ghost use Rattle.xe_run.specs.Turn.{counted};
 ghost use Rattle.xe_run.specs.Drive as spec;
+ghost use Rattle.xe_run.specs.Reported.{count_at, with_waits};
 
 use crate::event::{Event, line_of};
 use crate::outside::{Failed, Sink};
@@ -19,9 +21,39 @@ pub(crate) fn print<K: Sink>(event: &Event, out: &mut K) -> Result<(), Failed>
     out.write(line_of(event).as_bytes())
 }
 
-/// A device access as an event.
-fn io_event(made: &Made) -> Event
-    ensures { result ≡ spec.io_event made.now }
+/// The count at a place; where there is none, the device was ready at once.
+fn count_at(waits: &[u64], at: usize) -> u64
+    ensures { result ≡ counted (count_at waits.now at) }
+{
+    if at < waits.len() { waits[at] } else { 0 }
+}
+
+/// A device access of a turn as an event.
+fn io_event(made: &Made, waits: u64) -> Event
+    ensures { result ≡ Event.Io made.now waits }
+{
+    Event::Io { made: *made, waits }
+}
+
+/// Writes the lines of device accesses, with the counts of replies of "not yet" at their places.
+pub(crate) fn print_waited<K: Sink>(
+    accesses: &[Made],
+    waits: &[u64],
+    out: &mut K,
+) -> Result<(), Failed>
+    ensures writes { Writes result (K.written out.old) (text (map spec.io_event (with_waits accesses.now waits.now))) (K.written out.new) }
+    ensures count { K.faults out.old ≤ K.faults out.new }
+    ensures failed { OnErr result (Rose (K.faults out.old) (K.faults out.new)) }
+{
+    for at in 0..accesses.len() {
+        print(&io_event(&accesses[at], count_at(waits, at)), out)?;
+    }
+    Ok(())
+}
+
+/// A device access of a call as an event.
+fn call_event(made: &Made) -> Event
+    ensures { result ≡ spec.call_event made.now }
 {
     Event::Io {
         made: *made,
@@ -29,14 +61,14 @@ fn io_event(made: &Made) -> Event
     }
 }
 
-/// Writes the lines of device accesses.
+/// Writes the lines of device accesses of a call.
 pub(crate) fn print_accesses<K: Sink>(accesses: &[Made], out: &mut K) -> Result<(), Failed>
-    ensures writes { Writes result (K.written out.old) (text (map spec.io_event accesses.now)) (K.written out.new) }
+    ensures writes { Writes result (K.written out.old) (text (map spec.call_event accesses.now)) (K.written out.new) }
     ensures count { K.faults out.old ≤ K.faults out.new }
     ensures failed { OnErr result (Rose (K.faults out.old) (K.faults out.new)) }
 {
     for made in accesses {
-        print(&io_event(made), out)?;
+        print(&call_event(made), out)?;
     }
     Ok(())
 }

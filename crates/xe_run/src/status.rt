@@ -1,7 +1,7 @@
 //! How a run ended.
 
 /// How a run ended, by the number that the program ends with.
-#[derive(Clone, Copy, Debug, Drop, PartialEq, Eq)]
+#[derive(Clone, Copy, Debug, PartialEq, Eq)]
 pub enum Status {
     /// All was done, and the whole output is written.
     Ok = 0,

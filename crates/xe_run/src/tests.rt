@@ -1,15 +1,18 @@
+mod adapters;
+mod large;
+
 use super::*;
 use std::alloc::Global;
 use std::io::Cursor;
 use std::test::Fail;
 
 const PORT_READ: &str =
-    "x86emu 1\nram 0 10000\npoke 7c00 b84100e460f4\nreg rip 7c00\ndev port r 60 5a\nrun 10\n";
+    "x86emu 1\nram 0 10000\npoke 7c00 e460f4\nreg rip 7c00\ndev port r 60 wait wait 41\nrun 10\n";
 
-const FIRST_LINE: &[u8] = b"step mov 1 rip=7c03 flags=2 rax=41\n";
+const FIRST_LINE: &[u8] = b"io port r 60 1 41 2\n";
 
 const TRACE: &[u8] =
-    b"step mov 1 rip=7c03 flags=2 rax=41\nio port r 60 1 5a 0\nstep in 1 rip=7c05 flags=2 rax=5a\nstep hlt 1 rip=7c06 flags=2 retire=4\n";
+    b"io port r 60 1 41 2\nstep in 1 rip=7c02 flags=2 rax=41\nstep hlt 1 rip=7c03 flags=2 retire=4\n";
 
 fn words(alloc: Global, text: &str) -> Result<Vec<String>, Fail> {
     let mut words = Vec::new(alloc);
@@ -49,6 +52,37 @@ fn runs_a_scene(rt: HostRuntime) -> Result<(), Fail> {
     let (status, bytes, _) = ran(rt.alloc(), "run", PORT_READ, &[], &[])?;
     assert_eq!(rt; status, Status::Ok);
     assert_eq!(rt; bytes.as_slice(), TRACE);
+    Ok(())
+}
+
+/// A store in two device accesses, of which the second fails once; and a step that isn't the one whose
+/// answers were kept.
+const CALLS: &str =
+    "x86emu 1\nram 0 10000\npoke 100 66a30200\nreg rip 100\nreg rax 44332211\nseg ds 2000 20000 ffff 93\ndev mem w 20004 fail\ncall\ncall\npoke 200 e460f4\nreg rip 200\ndev port r 60 wait 7\ncall\nreg rip 202\ncall\nreg rip 200\ncall\n";
+
+const CALLS_TRACE: &[u8] =
+    b"io mem w 20002 2 2211 0\nbusfault mov mem w 20004 2 4433\nio mem w 20004 2 4433 0\nstep mov 1 rip=104 flags=2\npending in port r 60 1 0\ndiverged hlt 0 port r 60 1 0 -\nio port r 60 1 7 0\nstep in 1 rip=202 flags=2 rax=44332207\n";
+
+#[test]
+fn calls_go_on_with_a_suspended_step(rt: HostRuntime) -> Result<(), Fail> {
+    let (status, bytes, _) = ran(rt.alloc(), "run", CALLS, &[], &[])?;
+    assert_eq!(rt; status, Status::Ok);
+    assert_eq!(rt; bytes.as_slice(), CALLS_TRACE);
+    Ok(())
+}
+
+/// A device that fails ends a run, and a run gives up the step that an earlier call has suspended.
+const FAILURES: &str =
+    "x86emu 1\nram 0 10000\npoke 100 e460e461\nreg rip 100\ndev port r 60 wait fail wait 7\nrun 3\ncall\nrun 1\n";
+
+const FAILURES_TRACE: &[u8] =
+    b"busfault in port r 60 1 0\npending in port r 60 1 0\nio port r 60 1 7 0\nstep in 1 rip=102 flags=2 rax=7\n";
+
+#[test]
+fn a_failing_device_ends_a_run(rt: HostRuntime) -> Result<(), Fail> {
+    let (status, bytes, _) = ran(rt.alloc(), "run", FAILURES, &[], &[])?;
+    assert_eq!(rt; status, Status::Ok);
+    assert_eq!(rt; bytes.as_slice(), FAILURES_TRACE);
     Ok(())
 }
 
@@ -118,11 +152,11 @@ const CHECKS: [(&str, &str); 16] = [
         "x86emu 1\nrun 1000000\nrun 1",
         "refused line 3 reason 13 too many\n",
     ),
-    ("x86emu 1\ncall", "refused line 2 reason 15 not built\n"),
     (
-        "x86emu 1\ndev port r 60 wait",
-        "refused line 2 reason 15 not built\n",
+        "x86emu 1\ndev port r 60 no",
+        "refused line 2 reason 7 unknown name\n",
     ),
+    ("x86emu 1\nbatch 3", "refused line 2 reason 15 not built\n"),
 ];
 
 #[test]

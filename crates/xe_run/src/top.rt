@@ -3,16 +3,16 @@ ghost use Rattle.std.specs.Prelude.{◌≡◌, ◌≢◌, ◌+◌, ◌≤◌, �
 ghost use Rattle.std.specs.Result.{IsErr};
 ghost use Rattle.xe_mem.specs.Layout.{IsLayout};
 ghost use Rattle.xe_scene.specs.Scene.{scene, text_most};
-ghost use Rattle.xe_scene.specs.Faults.{draft_of};
+ghost use Rattle.xe_scene.specs.Faults.{content_of};
 ghost use Rattle.xe_run.specs.Told.{followed_by, is_told, Rose, Quiet};
 ghost use Rattle.xe_run.specs.Output.{Output, Answers, answer, output, mode_of, usage, IsWhole};
 
-use crate::driving::{DriveFault, drive};
-use crate::event::refusal_line;
 use crate::mode::{Mode, mode_of};
 use crate::outside::{Sink, Source};
-use crate::reading::{ReadError, read_text};
+use crate::play::{PlayFault, play};
+use crate::refusal::refusal_line;
 use crate::status::Status;
+use crate::whole_text::{ReadError, read_text};
 use std::alloc::Global;
 use xe_scene::{Scene, SceneFault, read_scene};
 
@@ -33,16 +33,16 @@ fn say<K: Sink>(bytes: &[u8], status: Status, out: &mut K) -> Status
 /// Runs a scene and writes its trace.
 fn run_scene<K: Sink>(alloc: Global, scene: &Scene, out: &mut K) -> Status
     requires { IsLayout scene.now.regions.items }
-    ensures output { Answers result (answer Mode.Run (Ok (draft_of scene.now))) (K.written out.old) (K.written out.new) }
+    ensures output { Answers result (answer Mode.Run (Ok (content_of scene.now))) (K.written out.old) (K.written out.new) }
     ensures not_usage { result ≢ Status.Usage }
     ensures no_read_fault { result ≢ Status.ReadFault }
     ensures write_fault { result ≡ Status.WriteFault → Rose (K.faults out.old) (K.faults out.new) }
     ensures count { K.faults out.old ≤ K.faults out.new }
 {
-    match drive(alloc, scene, out) {
+    match play(alloc, scene, out) {
         Ok(()) => Status::Ok,
-        Err(DriveFault::Write) => Status::WriteFault,
-        Err(DriveFault::NoMemory) => Status::NoMemory,
+        Err(PlayFault::Write) => Status::WriteFault,
+        Err(PlayFault::NoMemory) => Status::NoMemory,
     }
 }
 

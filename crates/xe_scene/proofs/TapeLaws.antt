@@ -9,11 +9,14 @@ use Rattle.std.proofs.lemmas.List.Sums.{sum_by_more}
 use Rattle.std.specs.Prelude.{All}
 use Rattle.std.proofs.lemmas.Option.{get_or_from_slice_get}
 use Rattle.xe_base.specs.declared.access.Access.{Access}
+use Rattle.xe_base.specs.declared.access.Made.{Made}
 use Rattle.xe_ctx.specs.Tape as tapes
-use Rattle.xe_ctx.specs.Tape.{Key, same_key, with_queue, first_reply}
+use Rattle.xe_ctx.specs.Tape.{Key, Tape, same_key, key_of, with_queue, first_reply, logged, popped, ask, IsTold}
+use Rattle.xe_ctx.specs.declared.bus.Reply.{Reply}
+use Rattle.xe_ctx.specs.declared.bus.Reply.TheVariants.{Ready, NotYet, Failed}
 use Rattle.xe_scene.specs.declared.command.Command.{Command}
 use Rattle.xe_scene.specs.declared.command.Item.{Item}
-use Rattle.xe_scene.specs.declared.command.Item.TheVariants.{Value, No}
+use Rattle.xe_scene.specs.declared.command.Item.TheVariants.{Wait, Value, No, Fail}
 use Rattle.xe_scene.specs.declared.queue.QueueName.{QueueName}
 use Rattle.xe_scene.specs.Queued.{Queued, filled, widened, without_first, roomy_queue}
 use Rattle.xe_base.specs.declared.access.Space.{Space}
@@ -26,6 +29,8 @@ use Rattle.xe_scene.proofs.KeyLaws.{equal_keys, not_true}
 
 -- an item of its space is taped alike
 alike : (s : Space) (i : Item) → IsItemFor s i → taped_in s i ≡ taped i
+alike s Wait h = refl
+alike s Fail h = refl
 alike s (Value v) h = refl
 alike Mem No h = absurd (not_true h)
 alike Port No h = absurd (not_true h)
@@ -69,10 +74,33 @@ popped_queues m n j h = changed m n j without_first _ (sym (drop-map (taped_in j
 
 first_counts : (a : Access) (i : tapes.Item) (is : List tapes.Item) → first_reply a (i ∷ []) ≡ first_reply a (i ∷ is)
 first_counts a (tapes.Gives r) is = refl
+first_counts a tapes.Waits is = refl
+first_counts a tapes.Fails is = refl
 
 pub first_replied : (a : Access) (items : List Item) → reply_to a (slice_get items 0) ≡ first_reply a (map (taped_in a.space) items)
 first_replied a [] = refl
 first_replied a (i ∷ items) = first_counts a (taped_in a.space i) (map (taped_in a.space) items)
+
+-- the tape after a reply: the first item is gone, and an answer is in the log
+asked_after : (t : Tape) (a : Access) (reply : Reply) (queues : Key → List tapes.Item) (log : List Made)
+    → reply ≡ first_reply a (t.queues (key_of a)) → queues ≡ with_queue t.queues (key_of a) (drop 1 (t.queues (key_of a)))
+    → log ≡ (logged t a reply).log → (logged (popped t a) a reply ≡ record { queues = with_queue t.queues (key_of a) (drop 1 (t.queues (key_of a))); log = (logged t a reply).log })
+    → IsTold (Some t) a reply (Some (record { queues = queues; log = log }))
+unfolding ask
+asked_after t a reply queues log e q l h = (
+  e,
+  ap (λ (q : Key → List tapes.Item). let t : Tape = record { queues = q; log = log } in Some t) q
+      ∙ ap (λ (l : List Made). let t : Tape = record { queues = with_queue t.queues (key_of a) (drop 1 (t.queues (key_of a))); log = l } in Some t) l
+      ∙ ap (λ (t : Tape). Some t) (sym h)
+      ∙ ap (λ (r : Reply). Some (logged (popped t a) a r)) e,
+)
+
+pub told_reply : (t : Tape) (a : Access) (reply : Reply) (queues : Key → List tapes.Item) (log : List Made)
+    → reply ≡ first_reply a (t.queues (key_of a)) → queues ≡ with_queue t.queues (key_of a) (drop 1 (t.queues (key_of a)))
+    → log ≡ (logged t a reply).log → IsTold (Some t) a reply (Some (record { queues = queues; log = log }))
+told_reply t a (Ready r) queues log e q l = asked_after t a (Ready r) queues log e q l refl
+told_reply t a NotYet queues log e q l = asked_after t a NotYet queues log e q l refl
+told_reply t a Failed queues log e q l = asked_after t a Failed queues log e q l refl
 
 -- a taken item leaves the room of all queues
 pub spare_kept : (m n : BTreeMap QueueName Queued) (j : Key) → ((k : Key) → queue_at n k ≡ (if same_key k j then without_first (queue_at m k) else queue_at m k))

@@ -6,7 +6,7 @@ use Rattle.xe_scene.specs.declared.command.Item.{Item}
 use Rattle.xe_scene.specs.declared.reason.Reason.{Reason}
 use Rattle.std.specs.Prelude.{Bool, ◌||◌}
 use Rattle.std.specs.List.{list_any}
-use Rattle.xe_scene.specs.Steps.{◌>>=◌}
+use Rattle.xe_scene.specs.Chain.{◌>>=◌}
 use Rattle.xe_scene.specs.Words.{item_of, items_of}
 
 -- what was read before, and what is still read
@@ -48,10 +48,3 @@ items_end space f ws i front all le h = sym h ∙ ap (λ (words : List (List ℕ
 pub any_mapped : {W : Type 0} (f : W → List ℕ) (p : List ℕ → Bool) (ws : List W) → list_any p (map f ws) ≡ list_any (λ w. p (f w)) ws
 any_mapped f p [] = refl
 any_mapped f p (w ∷ ws) = ap (λ b. p (f w) || b) (any_mapped f p ws)
-
--- a list of two words
-pub two_words : {W : Type 0} (ws : List W) (d : W) → 2 ≤ length ws → length ws < 3 → ws ≡ get_or ws 0 d ∷ get_or ws 1 d ∷ []
-two_words [] d h k = absurd (omega arith)
-two_words (a ∷ []) d h k = absurd (omega arith)
-two_words (a ∷ b ∷ []) d h k = refl
-two_words (a ∷ b ∷ c ∷ ws) d h k = absurd (omega arith)

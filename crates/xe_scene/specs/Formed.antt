@@ -1,19 +1,23 @@
--- The ranges of a command's words. This project's choice.
+-- The ranges of a command's words. A register's words have the bits of its parts (SDM volume 3, "Segment Registers" and "Segment
+-- Descriptors": a selector has 16 bits, a limit in bytes 32; "Memory-Management Registers": a table's limit has 16); attributes have a
+-- field of 16. The other bounds are this project's, and keep what one line prints or runs in proportion.
 use Rattle.std.specs.Prelude.{◌≤◌, ◌<◌, All, IsTrue, length}
 use Rattle.xe_base.specs.Access.{is_msr}
 use Rattle.xe_base.specs.declared.access.Space.{Space}
 use Rattle.xe_scene.specs.declared.command.Command.{Command}
-use Rattle.xe_scene.specs.declared.command.Command.TheVariants.{Reg, Seg, Table, Poke, Dev, Run, Show, Dump}
+use Rattle.xe_scene.specs.declared.command.Command.TheVariants.{Reg, Seg, Table, Poke, Dev, Run, Call, Show, Dump}
 use Rattle.xe_scene.specs.declared.command.Item.{Item}
-use Rattle.xe_scene.specs.declared.command.Item.TheVariants.{Value, No}
+use Rattle.xe_scene.specs.declared.command.Item.TheVariants.{Wait, Value, No, Fail}
 use Rattle.xe_scene.specs.declared.words.Entry.{Entry}
 use Rattle.xe_scene.specs.declared.words.Entry.TheVariants.{Ram, Obey}
 use Rattle.xe_scene.specs.Names.{register_most}
 
 -- only a model-specific register answers that there is none
 abbrev pub IsItemFor : Space → Item → Type 0
+IsItemFor s Wait = Unit {0}
 IsItemFor s (Value v) = Unit {0}
 IsItemFor s No = IsTrue (is_msr s)
+IsItemFor s Fail = Unit {0}
 
 -- a command that a line can say
 abbrev pub IsFormed : Command → Type 0
@@ -23,6 +27,7 @@ IsFormed (Table t base limit) = limit ≤ 0xffff
 IsFormed (Poke a bytes) = 0 < length bytes.items
 IsFormed (Dev s d a items) = (0 < length items.items) × All (IsItemFor s) items.items
 IsFormed (Run n) = (0 < n) × (n ≤ 1000000)
+IsFormed Call = Unit {0}
 IsFormed Show = Unit {0}
 IsFormed (Dump a len) = (0 < len) × (len ≤ 0x1000)
 

@@ -1,4 +1,4 @@
-pub mod Steps
+pub mod Chain
 pub mod Numbers
 pub mod Reasons
 pub mod Queues
@@ -11,10 +11,10 @@ pub mod Names
 pub mod Words
 pub mod Formed
 pub mod CommandsInside
-pub mod Draft
+pub mod Content
 pub mod Scene
 pub mod First
-pub mod Gives
+pub mod Agrees
 pub mod Puts
 pub mod Faults
-pub mod Counts
+pub mod ReaderInside

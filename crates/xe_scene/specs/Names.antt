@@ -1,4 +1,5 @@
--- The names of commands, registers, spaces and directions. This project's choice.
+-- The names of commands, registers, spaces and directions. Registers have the names of the SDM in lower case, as the trace prints
+-- them; the other names are short words, of which a line has many.
 use Rattle.std.specs.Prelude.{ℕ, ◌||◌, Bool, if◌then◌else◌, List, Result, Ok, Err, codes}
 use Rattle.std.specs.Str.{bytes_eq}
 use Rattle.xe_base.specs.declared.access.Space.{Space}
@@ -18,7 +19,7 @@ use Rattle.xe_scene.specs.declared.command.Dir.TheVariants.{Read, Write}
 
 -- the commands that are known and not built
 abbrev pub is_unbuilt : List ℕ → Bool
-is_unbuilt name = bytes_eq name (codes "call") || bytes_eq name (codes "batch") || bytes_eq name (codes "icpt") || bytes_eq name (codes "unicpt") || bytes_eq name (codes "ioport") || bytes_eq name (codes "icptmsr")
+is_unbuilt name = bytes_eq name (codes "batch") || bytes_eq name (codes "icpt") || bytes_eq name (codes "unicpt") || bytes_eq name (codes "ioport") || bytes_eq name (codes "icptmsr")
 
 unfoldable pub command_name : List ℕ → Result CommandName Reason
 command_name word =
@@ -30,6 +31,7 @@ command_name word =
     else if bytes_eq word (codes "poke") then Ok commands.Poke
     else if bytes_eq word (codes "dev") then Ok commands.Dev
     else if bytes_eq word (codes "run") then Ok commands.Run
+    else if bytes_eq word (codes "call") then Ok commands.Call
     else if bytes_eq word (codes "show") then Ok commands.Show
     else if bytes_eq word (codes "dump") then Ok commands.Dump
     else Err UnknownCommand

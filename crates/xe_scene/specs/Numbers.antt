@@ -1,4 +1,5 @@
--- Numbers and byte texts as words. This project's choice.
+-- Numbers and byte texts as words. Addresses and values are hexadecimal, as manuals, dumps and the trace have them; counts are decimal, without
+-- leading zeros.
 use Rattle.std.specs.Prelude.{ℕ, ◌+◌, ◌*◌, ◌-◌, ◌==◌, ◌&&◌, ◌||◌, nat_le, nat_lt, if◌then◌else◌, List, [], ◌∷◌, length, Option, Some, None, option_and_then, Result, Ok, Err}
 use Rattle.hex.specs.Hex.{hex_digit_value, decode_of}
 use Rattle.hex.specs.declared.error.FromHexError.{FromHexError}

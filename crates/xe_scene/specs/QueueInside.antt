@@ -1,4 +1,5 @@
--- How a queue is kept: its items so far, of which the first ones were taken, in memory that holds all that may come. This project's choice.
+-- How a queue is kept: its items so far, of which the first ones were taken, in memory that holds all that may come. Taken items stay,
+-- so that taking one moves none.
 use Rattle.std.specs.Prelude.{◌+◌, ◌≤◌, drop, vec_len, vec_capacity}
 use Rattle.xe_scene.specs.declared.queue.Queue.TheInside.{Inside}
 use Rattle.xe_scene.specs.Queued.{Queued}

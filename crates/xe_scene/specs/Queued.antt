@@ -1,4 +1,4 @@
--- What a device queue has. This project's choice.
+-- What a device queue has. Its room is counted, so that feeding it asks for no memory.
 use Rattle.std.specs.Prelude.{ℕ, ◌+◌, ◌-◌, List, [], ◌++◌, drop, length}
 use Rattle.xe_scene.specs.declared.command.Item.{Item}
 

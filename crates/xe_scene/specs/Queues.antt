@@ -1,4 +1,5 @@
--- The names of device queues. This project's choice.
+-- The names of device queues. Reads and writes of one address have queues of their own, since a device answers them apart, and the
+-- same number in two spaces names two devices.
 use Rattle.std.specs.Prelude.{ℕ, Bool, true, false}
 use Rattle.xe_base.specs.declared.access.Space.{Space}
 use Rattle.xe_ctx.specs.Tape.{Key}

@@ -1,4 +1,4 @@
--- A scripted bus as the tape that it is. This project's choice.
+-- A scripted bus as the tape that it is: what the definitions say of a tape holds of its devices.
 use Rattle.std.specs.Prelude.{ℕ, ◌-◌, List, map, length, if◌then◌else◌, Option, Some, None}
 use Rattle.std.specs.BTreeMap.{BTreeMap, get}
 use Rattle.xe_base.specs.Access.{is_msr}
@@ -6,11 +6,11 @@ use Rattle.xe_base.specs.declared.access.Answer.TheVariants as answers
 use Rattle.xe_base.specs.declared.access.Answer.TheVariants.{Val}
 use Rattle.xe_ctx.specs.Bus.{BusView}
 use Rattle.xe_ctx.specs.Tape as tapes
-use Rattle.xe_ctx.specs.Tape.{Key, Tape, Gives, fed}
+use Rattle.xe_ctx.specs.Tape.{Key, Tape, Gives, Waits, Fails, fed}
 use Rattle.xe_base.specs.declared.access.Space.{Space}
 use Rattle.xe_scene.specs.declared.command.Dir.{Dir}
 use Rattle.xe_scene.specs.declared.command.Item.{Item}
-use Rattle.xe_scene.specs.declared.command.Item.TheVariants.{Value, No}
+use Rattle.xe_scene.specs.declared.command.Item.TheVariants.{Wait, Value, No, Fail}
 use Rattle.xe_scene.specs.declared.queue.QueueName.{QueueName}
 use Rattle.xe_scene.specs.declared.script_bus.ScriptBus.{ScriptBus}
 use Rattle.xe_scene.specs.contracts.queue.QueueNameOrd.TheImpl as derived_ord
@@ -19,13 +19,17 @@ use Rattle.xe_scene.specs.Queues.{name_of, key_of_queue}
 
 -- what an item does on a tape
 abbrev pub taped : Item → tapes.Item
+taped Wait = Waits
 taped (Value v) = Gives (Val v)
 taped No = Gives answers.No
+taped Fail = Fails
 
 -- the same in a queue of a space: `No` is fed to model-specific registers only, and would read as 0 elsewhere
 abbrev pub taped_in : Space → Item → tapes.Item
+taped_in s Wait = Waits
 taped_in s (Value v) = Gives (Val v)
 taped_in s No = if is_msr s then Gives answers.No else Gives (Val 0)
+taped_in s Fail = Fails
 
 -- what is found, and where nothing is found an empty queue without room
 abbrev pub or_empty : Option Queued → Queued
@@ -51,9 +55,16 @@ spare_of b k = (queue_at b.queues k).left
 abbrev pub log_room : ScriptBus → ℕ
 log_room b = 256 - length b.log.items
 
+-- how often a device wasn't ready, and how often one failed
+abbrev pub unready_of : ScriptBus → ℕ
+unready_of b = b.unready
+
+abbrev pub faults_of : ScriptBus → ℕ
+faults_of b = b.faults
+
 -- what is told of a scripted bus
 abbrev pub sight_of : ScriptBus → BusView
-sight_of b = record { tape = Some (tape_of b); room = log_room b; spare = spare_of b }
+sight_of b = record { tape = Some (tape_of b); room = log_room b; spare = spare_of b; unready = unready_of b; faults = faults_of b }
 
 -- the tape after a dev line
 abbrev pub with_device : Tape → Space → Dir → ℕ → List Item → Tape

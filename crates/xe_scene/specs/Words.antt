@@ -1,18 +1,19 @@
--- What the words of one line say, by themselves. This project's choice.
+-- What the words of one line say, by themselves. They are counted first and then read from left to right, so that the reason of a
+-- refusal is that of the first word that is wrong.
 use Rattle.std.specs.Prelude.{ℕ, ◌==◌, ◌||◌, nat_lt, Bool, if◌then◌else◌, List, [], ◌∷◌, length, Option, Some, None, Result, Ok, Err, codes}
 use Rattle.std.specs.Str.{bytes_eq}
 use Rattle.xe_base.specs.Access.{is_msr}
 use Rattle.xe_base.specs.declared.access.Space.{Space}
 use Rattle.xe_scene.specs.declared.reason.Reason.{Reason}
-use Rattle.xe_scene.specs.declared.reason.Reason.TheVariants.{UnknownCommand, WordCount, UnknownName, BadNumber, BadBytes, LateRam, TooMany, NotBuilt}
+use Rattle.xe_scene.specs.declared.reason.Reason.TheVariants.{UnknownCommand, WordCount, UnknownName, BadNumber, BadBytes, LateRam, TooMany}
 use Rattle.xe_scene.specs.declared.command.Item.{Item}
-use Rattle.xe_scene.specs.declared.command.Item.TheVariants.{Value, No}
-use Rattle.xe_scene.specs.declared.command.Command.TheVariants.{Reg, Seg, Table, Poke, Dev, Run, Show, Dump}
+use Rattle.xe_scene.specs.declared.command.Item.TheVariants.{Wait, Value, No, Fail}
+use Rattle.xe_scene.specs.declared.command.Command.TheVariants.{Reg, Seg, Table, Poke, Dev, Run, Call, Show, Dump}
 use Rattle.xe_scene.specs.declared.words.Entry.{Entry}
 use Rattle.xe_scene.specs.declared.words.Entry.TheVariants.{Ram, Obey}
 use Rattle.xe_scene.specs.declared.names.CommandName.{CommandName}
 use Rattle.xe_scene.specs.declared.names.CommandName.TheVariants as commands
-use Rattle.xe_scene.specs.Steps.{◌>>=◌}
+use Rattle.xe_scene.specs.Chain.{◌>>=◌}
 use Rattle.xe_scene.specs.Names.{command_name, register_name, register_most, segment_name, table_name, space_of, direction_of}
 use Rattle.xe_scene.specs.Numbers.{hex_number, decimal_number, bytes_of}
 
@@ -88,14 +89,11 @@ unfoldable pub poke_of : List (List ℕ) → Result Entry Reason
 poke_of (address ∷ bytes ∷ []) = poke_at address bytes
 poke_of words = Err WordCount
 
--- the items of a device that are known and not built
-abbrev pub is_unbuilt_item : List ℕ → Bool
-is_unbuilt_item word = bytes_eq word (codes "wait") || bytes_eq word (codes "fail")
-
--- only model-specific registers have the item `no`
+-- `wait`, `fail`, `no` and a value; only model-specific registers have the item `no`
 unfoldable pub item_of : Space → List ℕ → Result Item Reason
 item_of space word =
-    if is_unbuilt_item word then Err NotBuilt
+    if bytes_eq word (codes "wait") then Ok Wait
+    else if bytes_eq word (codes "fail") then Ok Fail
     else if bytes_eq word (codes "no") then (if is_msr space then Ok No else Err UnknownName)
     else (do
       v ← quad word
@@ -130,6 +128,11 @@ unfoldable pub run_of : List (List ℕ) → Result Entry Reason
 run_of (count ∷ []) = steps_of (decimal_number count)
 run_of words = Err WordCount
 
+-- call
+unfoldable pub call_of : List (List ℕ) → Result Entry Reason
+call_of [] = Ok (Obey Call)
+call_of (word ∷ words) = Err WordCount
+
 -- show
 unfoldable pub show_of : List (List ℕ) → Result Entry Reason
 show_of [] = Ok (Obey Show)
@@ -160,6 +163,7 @@ said_by late commands.Table words = table_of words
 said_by late commands.Poke words = poke_of words
 said_by late commands.Dev words = device_of words
 said_by late commands.Run words = run_of words
+said_by late commands.Call words = call_of words
 said_by late commands.Show words = show_of words
 said_by late commands.Dump words = dump_of words
 

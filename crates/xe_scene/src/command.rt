@@ -9,7 +9,7 @@ use xe_base::Space;
 use xe_mem::Region;
 
 /// A register that a scene sets by its name.
-#[derive(Clone, Copy, Debug, Drop, PartialEq, Eq)]
+#[derive(Clone, Copy, Debug, PartialEq, Eq)]
 pub enum RegName {
     Rax,
     Rcx,
@@ -40,7 +40,7 @@ pub enum RegName {
 }
 
 /// A segment register that a scene sets by its name.
-#[derive(Clone, Copy, Debug, Drop, PartialEq, Eq)]
+#[derive(Clone, Copy, Debug, PartialEq, Eq)]
 pub enum SegReg {
     Es,
     Cs,
@@ -53,14 +53,14 @@ pub enum SegReg {
 }
 
 /// A table register that a scene sets by its name.
-#[derive(Clone, Copy, Debug, Drop, PartialEq, Eq)]
+#[derive(Clone, Copy, Debug, PartialEq, Eq)]
 pub enum DtName {
     Gdtr,
     Idtr,
 }
 
 /// Whether a device is read or written.
-#[derive(Clone, Copy, Debug, Default, Drop, PartialEq, Eq, PartialOrd, Ord)]
+#[derive(Clone, Copy, Debug, Default, PartialEq, Eq, PartialOrd, Ord)]
 pub enum Dir {
     #[default]
     Read,
@@ -76,19 +76,18 @@ impl Dir {
     }
 }
 
-/// What a scripted device does at one access.
-#[derive(Clone, Copy, Debug, Drop, PartialEq, Eq)]
+/// What a scripted device does when it is asked once.
+#[derive(Clone, Copy, Debug, Default, PartialEq, Eq)]
 pub enum Item {
+    /// Isn't ready yet; the access can be asked for again.
+    #[default]
+    Wait,
     /// Answers this value, truncated to the size of the access.
     Value(u64),
     /// Answers that there is no such model-specific register.
     No,
-}
-
-impl Default for Item {
-    fn default() -> Item {
-        Item::Value(0)
-    }
+    /// Fails: the access isn't made.
+    Fail,
 }
 
 /// One command of a scene, with the words of its line in their order.
@@ -107,6 +106,8 @@ pub enum Command {
     Dev(Space, Dir, u64, ArrayVec<Item, 16>),
     /// Runs up to so many steps, 1 to 1,000,000.
     Run(u64),
+    /// Makes one call of the emulator, which keeps the record of a suspended step.
+    Call,
     /// Shows the registers.
     Show,
     /// Shows so many bytes of RAM, 1 to 1000h, from a physical address on.

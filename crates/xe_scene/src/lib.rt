@@ -7,14 +7,14 @@ mod names;
 mod number;
 mod queue;
 mod reader;
-mod reading;
 mod reason;
 mod script_bus;
+mod text;
 mod words;
 
 pub use command::{Command, Commands, Dir, DtName, Item, RegName, Scene, SegReg};
-pub use reading::{SceneFault, TEXT_MOST, read_scene};
 pub use script_bus::ScriptBus;
+pub use text::{SceneFault, TEXT_MOST, read_scene};
 
 #[cfg(test)]
 mod tests;

@@ -7,7 +7,7 @@ use crate::reason::Reason;
 use xe_base::Space;
 
 /// A command that is built.
-#[derive(Clone, Copy, Drop)]
+#[derive(Clone, Copy)]
 pub(crate) enum CommandName {
     Ram,
     Reg,
@@ -16,6 +16,7 @@ pub(crate) enum CommandName {
     Poke,
     Dev,
     Run,
+    Call,
     Show,
     Dump,
 }
@@ -24,8 +25,7 @@ pub(crate) enum CommandName {
 fn is_unbuilt(name: &[u8]) -> bool
     ensures { result ≡ spec.is_unbuilt name.now }
 {
-    name == b"call".as_slice()
-        || name == b"batch".as_slice()
+    name == b"batch".as_slice()
         || name == b"icpt".as_slice()
         || name == b"unicpt".as_slice()
         || name == b"ioport".as_slice()
@@ -47,6 +47,7 @@ pub(crate) fn command_name(word: &[u8]) -> Result<CommandName, Reason>
         b"poke" => Ok(CommandName::Poke),
         b"dev" => Ok(CommandName::Dev),
         b"run" => Ok(CommandName::Run),
+        b"call" => Ok(CommandName::Call),
         b"show" => Ok(CommandName::Show),
         b"dump" => Ok(CommandName::Dump),
         _ => Err(Reason::UnknownCommand),
@@ -90,7 +91,7 @@ pub(crate) fn register_name(word: &[u8]) -> Result<RegName, Reason>
     }
 }
 
-/// The greatest value of a register.
+/// The greatest value of a register: `cpl` has one byte, all others have 64 bits.
 pub(crate) fn register_most(name: RegName) -> u64
     ensures { result ≡ spec.register_most name }
 {

@@ -8,7 +8,7 @@ use std::marker::Model;
 use xe_base::Space;
 
 /// A device queue, told by its space, its direction and its address.
-#[derive(Clone, Copy, Debug, Default, Drop, PartialEq, Eq, PartialOrd, Ord)]
+#[derive(Clone, Copy, Debug, Default, PartialEq, Eq, PartialOrd, Ord)]
 pub(crate) struct QueueName {
     pub(crate) space: Space,
     pub(crate) write: bool,

@@ -2,11 +2,11 @@
 ghost use Rattle.std.specs.Prelude.{◌≡◌, ◌≤◌, [], length, map, IfOk, if◌then◌else◌};
 ghost use Rattle.std.specs.List.{list_any, slice_split};
 ghost use Rattle.xe_mem.specs.Layout.{IsLayout};
-ghost use Rattle.xe_scene.specs.Draft as spec;
+ghost use Rattle.xe_scene.specs.Content as spec;
 ghost use Rattle.xe_scene.specs.Formed.{IsFormed, IsFormedEntry};
 ghost use Rattle.xe_scene.specs.Queues.{same_queue};
 ghost use Rattle.xe_scene.specs.Puts.{Puts, with_new};
-ghost use Rattle.xe_scene.specs.Faults.{draft_of};
+ghost use Rattle.xe_scene.specs.Faults.{content_of};
 ghost use Rattle.xe_scene.specs.declared.reader.LineFault.TheVariants.{NoMemory};
 
 use crate::command::{Command, Commands, Scene};
@@ -19,7 +19,7 @@ use std::marker::Model;
 use xe_mem::{MAX_BYTES, MAX_REGIONS, Region};
 
 /// Why a line was not read.
-#[derive(Clone, Copy, Debug, Drop, PartialEq, Eq)]
+#[derive(Clone, Copy, Debug, PartialEq, Eq)]
 pub(crate) enum LineFault {
     NoMemory,
     Bad(Reason),
@@ -59,13 +59,13 @@ pub(crate) struct Reader {
 }
 
 impl Model for Reader {
-    ghost use Rattle.xe_scene.specs.Draft.{Draft};
+    ghost use Rattle.xe_scene.specs.Content.{Content};
 
-    ghost Value = { Draft };
+    ghost Value = { Content };
 
-    ghost use Rattle.xe_scene.specs.Counts.{draft, IsCounted};
+    ghost use Rattle.xe_scene.specs.ReaderInside.{content, IsCounted};
 
-    ghost view = { draft };
+    ghost view = { content };
 
     ghost invariant = { IsCounted };
 }
@@ -76,7 +76,14 @@ fn item_count(command: &Command) -> usize
 {
     match command {
         Command::Dev(_, _, _, items) => items.len(),
-        _ => 0,
+        Command::Reg(..)
+        | Command::Seg(..)
+        | Command::Table(..)
+        | Command::Poke(..)
+        | Command::Run(_)
+        | Command::Call
+        | Command::Show
+        | Command::Dump(..) => 0,
     }
 }
 
@@ -85,19 +92,33 @@ fn step_count(command: &Command) -> u64
 {
     match command {
         Command::Run(steps) => *steps,
-        _ => 0,
+        Command::Reg(..)
+        | Command::Seg(..)
+        | Command::Table(..)
+        | Command::Poke(..)
+        | Command::Dev(..)
+        | Command::Call
+        | Command::Show
+        | Command::Dump(..) => 0,
     }
 }
 
 /// The queue that a command names and that isn't one of these.
 fn new_queue(queues: &[QueueName], command: &Command) -> Option<QueueName>
-    ensures { spec.with_queue queues.now command.now ≡ with_new queues.now result }
+    ensures { spec.with_queue_of queues.now command.now ≡ with_new queues.now result }
 {
     match command {
         Command::Dev(space, dir, address, _) => {
             another_queue(queues, QueueName::new(*space, dir.is_write(), *address))
         }
-        _ => None,
+        Command::Reg(..)
+        | Command::Seg(..)
+        | Command::Table(..)
+        | Command::Poke(..)
+        | Command::Run(_)
+        | Command::Call
+        | Command::Show
+        | Command::Dump(..) => None,
     }
 }
 
@@ -133,7 +154,7 @@ impl Reader {
         }
     }
 
-    #[tactic(auto, using(crate::proofs::RegionLaws::layout_push), unfolding(crate::specs::Draft::put, crate::specs::Draft::is_too_much, crate::specs::Draft::is_bad_region))]
+    #[tactic(auto, using(crate::proofs::RegionLaws::layout_push), unfolding(crate::specs::Content::put, crate::specs::Content::is_too_much, crate::specs::Content::is_bad_region))]
     fn put_region(&mut self, region: Region) -> Result<(), LineFault>
         ensures { Puts result (spec.put self.old (Entry.Ram region)) self.new }
     {
@@ -149,7 +170,7 @@ impl Reader {
         Ok(())
     }
 
-    #[tactic(auto, using(crate::proofs::RegionLaws::formed_push), unfolding(crate::specs::Draft::put, crate::specs::Draft::is_too_many))]
+    #[tactic(auto, using(crate::proofs::RegionLaws::formed_push), unfolding(crate::specs::Content::put, crate::specs::Content::is_too_many))]
     fn put_command(&mut self, command: Command) -> Result<(), LineFault>
         requires { IsFormed command }
         ensures { Puts result (spec.put self.old (Entry.Obey command)) self.new }
@@ -189,7 +210,7 @@ impl Reader {
         !self.commands.is_empty()
     }
 
-    #[tactic(auto, using(crate::proofs::WordLaws::any_mapped), unfolding(crate::specs::Draft::words_say))]
+    #[tactic(auto, using(crate::proofs::WordLaws::any_mapped), unfolding(crate::specs::Content::words_say))]
     fn words(&mut self, words: &[&[u8]]) -> Result<(), LineFault>
         ensures { Puts result (spec.words_say self.old (map (λ w. w.now) words.now)) self.new }
     {
@@ -203,7 +224,7 @@ impl Reader {
     }
 
     /// Reads a line.
-    #[tactic(auto, unfolding(crate::specs::Draft::line_says))]
+    #[tactic(auto, unfolding(crate::specs::Content::line_says))]
     pub(crate) fn line(&mut self, alloc: Global, line: &[u8]) -> Result<(), LineFault>
         ensures { Puts result (spec.line_says self.old line.now) self.new }
     {
@@ -221,7 +242,7 @@ impl Reader {
     }
 
     pub(crate) fn into_scene(self) -> Scene
-        ensures draft { draft_of result ≡ self }
+        ensures content { content_of result ≡ self }
         ensures regions { IsLayout result.regions.items }
     {
         let Reader {

@@ -1,9 +1,9 @@
 //! The reasons for which a text is refused.
 ghost use Rattle.std.specs.Prelude.{◌≡◌};
-ghost use Rattle.xe_scene.specs.Reasons.{number_of};
+ghost use Rattle.xe_scene.specs.Reasons.{reason_number};
 
 /// Why a line is bad, in the order of the numbers that are printed, from 1.
-#[derive(Clone, Copy, Debug, Drop, PartialEq, Eq)]
+#[derive(Clone, Copy, Debug, PartialEq, Eq)]
 pub enum Reason {
     Header,
     BadByte,
@@ -25,7 +25,7 @@ pub enum Reason {
 impl Reason {
     /// The number that is printed.
     pub fn number(self) -> u8
-        ensures { result ≡ number_of self }
+        ensures { result ≡ reason_number self }
     {
         match self {
             Reason::Header => 1,

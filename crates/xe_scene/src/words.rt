@@ -3,7 +3,7 @@ ghost use Rattle.std.specs.Prelude.{◌≡◌, ◌≤◌, All, IfOk, length, map
 ghost use Rattle.xe_base.specs.Access.{is_msr};
 ghost use Rattle.xe_scene.specs.Words as spec;
 ghost use Rattle.xe_scene.specs.Formed.{IsItemFor, IsFormedEntry};
-ghost use Rattle.xe_scene.specs.Gives.{Gives};
+ghost use Rattle.xe_scene.specs.Agrees.{Agrees};
 
 use crate::command::{Command, Item};
 use crate::names::{
@@ -164,13 +164,6 @@ fn poke_of(words: &[&[u8]]) -> Result<Entry, Reason>
     }
 }
 
-/// Whether an item of this name is known, but not built.
-fn is_unbuilt_item(word: &[u8]) -> bool
-    ensures { result ≡ spec.is_unbuilt_item word.now }
-{
-    word == b"wait".as_slice() || word == b"fail".as_slice()
-}
-
 fn is_msr(space: Space) -> bool
     ensures { result ≡ is_msr space }
 {
@@ -182,8 +175,11 @@ fn item_of(space: Space, word: &[u8]) -> Result<Item, Reason>
     ensures value { result ≡ spec.item_of space word.now }
     ensures formed { IfOk result (IsItemFor space) }
 {
-    if is_unbuilt_item(word) {
-        return Err(Reason::NotBuilt);
+    if word == b"wait".as_slice() {
+        return Ok(Item::Wait);
+    }
+    if word == b"fail".as_slice() {
+        return Ok(Item::Fail);
     }
     if word == b"no".as_slice() {
         return if is_msr(space) {
@@ -198,7 +194,7 @@ fn item_of(space: Space, word: &[u8]) -> Result<Item, Reason>
 
 fn items_of(space: Space, words: &[&[u8]]) -> Result<ArrayVec<Item, 16>, Reason>
     requires { length words.now ≤ 16 }
-    ensures value { Gives (λ v. v.items) result (spec.items_of space (map (λ w. w.now) words.now)) }
+    ensures value { Agrees (λ v. v.items) result (spec.items_of space (map (λ w. w.now) words.now)) }
     ensures count { IfOk result (λ v. length v.items ≡ length words.now) }
     ensures formed { IfOk result (λ v. All (IsItemFor space) v.items) }
 {
@@ -209,6 +205,7 @@ fn items_of(space: Space, words: &[&[u8]]) -> Result<ArrayVec<Item, 16>, Reason>
     Ok(items)
 }
 
+/// `dev SPACE DIR ADDR ITEMS`
 #[tactic(auto, unfolding(crate::specs::Words::device_of))]
 fn device_of(words: &[&[u8]]) -> Result<Entry, Reason>
     ensures value { result ≡ spec.device_of (map (λ w. w.now) words.now) }
@@ -229,6 +226,7 @@ fn device_of(words: &[&[u8]]) -> Result<Entry, Reason>
     }
 }
 
+/// `run N`
 #[tactic(auto, unfolding(crate::specs::Words::run_of))]
 fn run_of(words: &[&[u8]]) -> Result<Entry, Reason>
     ensures value { result ≡ spec.run_of (map (λ w. w.now) words.now) }
@@ -244,6 +242,19 @@ fn run_of(words: &[&[u8]]) -> Result<Entry, Reason>
     }
 }
 
+/// `call`
+#[tactic(auto, unfolding(crate::specs::Words::call_of))]
+fn call_of(words: &[&[u8]]) -> Result<Entry, Reason>
+    ensures value { result ≡ spec.call_of (map (λ w. w.now) words.now) }
+    ensures formed { IfOk result IsFormedEntry }
+{
+    match words {
+        [] => Ok(Entry::Obey(Command::Call)),
+        _ => Err(Reason::WordCount),
+    }
+}
+
+/// `show`
 #[tactic(auto, unfolding(crate::specs::Words::show_of))]
 fn show_of(words: &[&[u8]]) -> Result<Entry, Reason>
     ensures value { result ≡ spec.show_of (map (λ w. w.now) words.now) }
@@ -301,6 +312,7 @@ fn said_by(late: bool, name: CommandName, words: &[&[u8]]) -> Result<Entry, Reas
         CommandName::Poke => poke_of(words),
         CommandName::Dev => device_of(words),
         CommandName::Run => run_of(words),
+        CommandName::Call => call_of(words),
         CommandName::Show => show_of(words),
         CommandName::Dump => dump_of(words),
     }

@@ -5,11 +5,11 @@ use Rattle.xe_run.proofs.print.print_accesses.Goals as goal
 
 pub returns-in_err-print-clause-writes : goal.returns-in_err-print-clause-writes
 returns-in_err-print-clause-writes g c =
-    progress_fails _ _ _ _ _ _ _ _ c.from_residual.ensures.0 c.loop-made.invariant.progress (accesses-drop c.args.accesses.now c.loop-made.made-index _ c.io_event.result c.loop-made-test.true c.io_event.ensures) c.in_err-print.ensures.writes
+    progress_fails _ _ _ _ _ _ _ _ c.from_residual.ensures.0 c.loop-made.invariant.progress (accesses-drop c.args.accesses.now c.loop-made.made-index _ c.call_event.result c.loop-made-test.true c.call_event.ensures) c.in_err-print.ensures.writes
 
 pub loop-made-preserved : goal.loop-made-preserved
 loop-made-preserved g c = record {
-  progress = progress_more _ _ _ _ _ _ _ c.loop-made.invariant.progress (accesses-drop c.args.accesses.now c.loop-made.made-index _ c.io_event.result c.loop-made-test.true c.io_event.ensures) c.in_ok-print.ensures.writes;
+  progress = progress_more _ _ _ _ _ _ _ c.loop-made.invariant.progress (accesses-drop c.args.accesses.now c.loop-made.made-index _ c.call_event.result c.loop-made-test.true c.call_event.ensures) c.in_ok-print.ensures.writes;
   count = omega (arith, c.loop-made.invariant.count, c.print.ensures.count);
 }
 

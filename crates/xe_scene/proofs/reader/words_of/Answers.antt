@@ -1,7 +1,7 @@
 use Rattle.std.proofs.Common.{rules, tests}
 use Rattle.std.proofs.lemmas.Iterator.Consumers.{map_from_collect}
 use Rattle.std.proofs.lemmas.Iterator.Splits.{YieldsList-from_slice_split}
-use Rattle.xe_scene.specs.Draft.{is_space}
+use Rattle.xe_scene.specs.Content.{is_space}
 use Rattle.xe_scene.proofs.reader.words_of.Goals as goal
 
 pub returns : goal.returns

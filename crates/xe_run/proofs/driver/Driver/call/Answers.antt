@@ -1,7 +1,43 @@
-use Rattle.std.proofs.Common.{refl}
-use Rattle.xe_run.proofs.TurnLaws.{told-of}
+use Rattle.std.proofs.Common.{◌≡◌, ap, sym, ◌∙◌}
+use Rattle.xe_ctx.specs.State.{State}
+use Rattle.xe_run.specs.Drive.{Did, call_command, redrafted}
+use Rattle.xe_run.specs.Driver.{world}
+use Rattle.xe_run.specs.Text.{text, line_of}
+use Rattle.xe_run.specs.declared.event.Event.TheVariants.{BadState}
+use Rattle.xe_run.proofs.DriveLaws.{answered_ok, answered_err, call-broken, call-goes-after, call-goes-shows, on_ok}
+use Rattle.xe_run.proofs.ToldLaws.{writes_err}
+use Rattle.xe_run.proofs.TextLaws.{text-one}
 use Rattle.xe_run.proofs.driver.Driver.call.Goals as goal
 
-pub returns-clause-told : goal.returns-clause-told
-returns-clause-told c =
-    told-of _ _ _ _ _ _ _ (c.emulate.ensures.told _ refl) c.begin.ensures.tape c.emulate.ensures.elements c.emulate.ensures.finished
+pub returns-in_err-tell_call-in-Ok-clause-writes : goal.returns-in_err-tell_call-in-Ok-clause-writes
+returns-in_err-tell_call-in-Ok-clause-writes g c =
+    let w = world c.args.self.now in
+    let installed = ap (λ (m : State). record w { machine = m }) c.in-Ok.ensures.ok in
+    let shows = call-goes-shows w _ _ _ _ _ (answered_ok _ _ c.in-Ok.ensures.answer) installed c.call_once-kept.ensures.called in
+    rw (shows, ← c.call_once-kept.ensures.kept, ← c.call_once-kept.ensures.draft, ← c.cpu.ensures.value) (writes_err _ _ _ _ c.from_residual.ensures.0 c.in_err-tell_call-in-Ok.ensures.writes)
+
+pub returns-in_ok-tell_call-in-Ok-clause-after : goal.returns-in_ok-tell_call-in-Ok-clause-after
+returns-in_ok-tell_call-in-Ok-clause-after g c =
+    let w = world c.args.self.now in
+    let installed = ap (λ (m : State). record w { machine = m }) c.in-Ok.ensures.ok in
+    c.redraft.ensures.after ∙ ap redrafted c.call_once-kept.ensures.after ∙ sym (call-goes-after w _ (answered_ok _ _ c.in-Ok.ensures.answer) installed)
+
+pub returns-in_ok-tell_call-in-Ok-clause-writes : goal.returns-in_ok-tell_call-in-Ok-clause-writes
+returns-in_ok-tell_call-in-Ok-clause-writes g c =
+    let w = world c.args.self.now in
+    let installed = ap (λ (m : State). record w { machine = m }) c.in-Ok.ensures.ok in
+    let shows = call-goes-shows w _ _ _ _ _ (answered_ok _ _ c.in-Ok.ensures.answer) installed c.call_once-kept.ensures.called in
+    rw (shows, ← c.call_once-kept.ensures.kept, ← c.call_once-kept.ensures.draft, ← c.cpu.ensures.value) c.in_ok-tell_call-in-Ok.ensures.writes
+
+pub returns-in-Err-clause-after : goal.returns-in-Err-clause-after
+returns-in-Err-clause-after g c =
+    let w = world c.args.self.now in
+    let stays = ap (λ (m : State). record w { machine = m }) c.in-Err.ensures.err in
+    let did = call-broken w c.in-Err.bad.rule (answered_err _ _ c.in-Err.ensures.answer) in
+    on_ok _ _ (c.refuse.ensures.after ∙ ap redrafted stays ∙ sym (ap (λ (d : Did). d.after) did))
+
+pub returns-in-Err-clause-writes : goal.returns-in-Err-clause-writes
+returns-in-Err-clause-writes g c =
+    let did = call-broken (world c.args.self.now) c.in-Err.bad.rule (answered_err _ _ c.in-Err.ensures.answer) in
+    let one : text (call_command (world c.args.self.now)).events ≡ line_of (BadState c.in-Err.bad.rule) = ap (λ (d : Did). text d.events) did ∙ text-one (BadState c.in-Err.bad.rule) in
+    rw one c.refuse.ensures.writes

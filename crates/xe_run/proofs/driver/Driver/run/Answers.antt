@@ -4,7 +4,7 @@ use Rattle.xe_run.specs.Drive.{Did, run_command, redrafted}
 use Rattle.xe_run.specs.Driver.{world}
 use Rattle.xe_run.specs.Text.{text, line_of}
 use Rattle.xe_run.specs.declared.event.Event.TheVariants.{BadState}
-use Rattle.xe_run.proofs.DriveLaws.{answered_ok, answered_err, run-events, run-after, run-broken, on_ok}
+use Rattle.xe_run.proofs.DriveLaws.{begun, answered_ok, answered_err, run-events, run-after, run-broken, on_ok}
 use Rattle.xe_run.proofs.ToldLaws.{writes_err}
 use Rattle.xe_run.proofs.TextLaws.{text-one}
 use Rattle.xe_run.proofs.driver.Driver.run.Goals as goal
@@ -12,21 +12,21 @@ use Rattle.xe_run.proofs.driver.Driver.run.Goals as goal
 pub returns-in_err-turns-in-Ok-clause-writes : goal.returns-in_err-turns-in-Ok-clause-writes
 returns-in_err-turns-in-Ok-clause-writes g c =
     let w = world c.args.self.now in
-    let installed = ap (λ (m : State). record w { machine = m }) c.in-Ok.ensures.ok in
+    let installed = begun w _ _ c.in-Ok.ensures.ok c.abandon.ensures in
     let events = run-events c.args.steps w _ (answered_ok _ _ c.in-Ok.ensures.answer) installed in
     rw events (writes_err _ _ _ _ c.from_residual.ensures.0 c.in_err-turns-in-Ok.ensures.writes)
 
 pub returns-in_ok-turns-in-Ok-clause-after : goal.returns-in_ok-turns-in-Ok-clause-after
 returns-in_ok-turns-in-Ok-clause-after g c =
     let w = world c.args.self.now in
-    let installed = ap (λ (m : State). record w { machine = m }) c.in-Ok.ensures.ok in
+    let installed = begun w _ _ c.in-Ok.ensures.ok c.abandon.ensures in
     let after = run-after c.args.steps w _ (answered_ok _ _ c.in-Ok.ensures.answer) installed in
     c.redraft.ensures.after ∙ ap redrafted c.in_ok-turns-in-Ok.ensures.after ∙ sym after
 
 pub returns-in_ok-turns-in-Ok-clause-writes : goal.returns-in_ok-turns-in-Ok-clause-writes
 returns-in_ok-turns-in-Ok-clause-writes g c =
     let w = world c.args.self.now in
-    let installed = ap (λ (m : State). record w { machine = m }) c.in-Ok.ensures.ok in
+    let installed = begun w _ _ c.in-Ok.ensures.ok c.abandon.ensures in
     let events = run-events c.args.steps w _ (answered_ok _ _ c.in-Ok.ensures.answer) installed in
     rw events c.in_ok-turns-in-Ok.ensures.writes
 

@@ -25,6 +25,7 @@ loop-step-preserved g c =
     record {
       progress = rw c.in_ok-turn.ensures.after (progress_more _ _ _ _ _ _ _ c.loop-step.invariant.progress n.events c.in_ok-turn.ensures.writes);
       after = rw c.in_ok-turn.ensures.after (sym n.after ∙ c.loop-step.invariant.after);
+      kept = c.turn.ensures.kept;
       room = λ k. c.turn.ensures.room k ∙ c.loop-step.invariant.room k;
       count = omega (arith, c.loop-step.invariant.count, c.turn.ensures.count);
     }
