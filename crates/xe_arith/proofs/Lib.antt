@@ -1,3 +1,4 @@
 pub mod Tame
 pub mod CalmRows
 pub mod BoundRows
+pub mod TestLaws

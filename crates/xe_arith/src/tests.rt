@@ -7,7 +7,7 @@ use std::alloc::Global;
 use std::process::Abort;
 use std::test::Fail;
 use xe_base::{Access, Answer, Cpu};
-use xe_ctx::{Bus, Ctx, Flow, Machine};
+use xe_ctx::{Bus, Ctx, Flow, Machine, Record, Reply};
 use xe_icpt::NoHits;
 use xe_mem::{GuestMem, Region};
 use xe_opmap::{Decoded, decode};
@@ -19,10 +19,11 @@ struct Quiet;
 impl Bus for Quiet {
     ghost use Rattle.std.specs.Prelude.{None};
 
-    ghost sight = { λ _. record { tape = None; room = 0; spare = λ _. 0 } };
+    ghost sight = { λ _. record { tape = None; room = 0; spare = λ _. 0; unready = 0; faults = 0 } };
 
-    fn access(&mut self, _: Access) -> Answer {
-        Answer::Val(0)
+    #[tactic(auto, using(crate::proofs::TestLaws::zero_fits))]
+    fn access(&mut self, _: Access) -> Reply {
+        Reply::Ready(Answer::Val(0))
     }
 }
 
@@ -48,7 +49,8 @@ fn after(alloc: Global, cpu: Cpu, bytes: &[u8]) -> Option<Cpu>
         return None;
     }
     let mut bus = Quiet;
-    let mut ctx = Ctx::begin(&mut m, &NoHits, &mut bus);
+    let mut record = Record::new();
+    let mut ctx = Ctx::begin(&mut m, &NoHits, &mut bus, &mut record);
     match exec(&insn, &mut ctx) {
         Flow::Finish { cpu, .. } => Some(cpu),
         Flow::Stopped(_) => None,
