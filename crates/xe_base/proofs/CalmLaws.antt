@@ -7,7 +7,7 @@ use Rattle.std.proofs.lemmas.Bool.Decides.{nat_tests}
 use Rattle.xe_base.specs.Bits.{bit, only}
 use Rattle.xe_base.specs.Calm.{fixed_flags, CalmKeepsValid}
 use Rattle.xe_base.specs.State.{is_long}
-use Rattle.xe_base.specs.State.{Valid, broken, flags_are_valid, pointer_is_valid, cr0_is_valid, cr4_is_valid, efer_is_valid, paging_is_valid, segments_are_valid, level_is_valid, code_is_valid, is_unprotected}
+use Rattle.xe_base.specs.State.{Valid, broken, flags_are_valid, pointer_is_valid, cr0_is_valid, cr4_is_valid, efer_is_valid, paging_is_valid, segments_are_valid, level_is_valid, code_is_valid}
 use Rattle.xe_base.specs.declared.cpu.Cpu.{Cpu}
 
 -- the rules with the two that a calm change can touch as answers of their own
@@ -21,8 +21,7 @@ chain flags pointer cpu =
     (if not (segments_are_valid cpu) then Some 6 else
     (if not (level_is_valid cpu) then Some 7 else
     (if not (code_is_valid cpu) then Some 8 else
-    (if not pointer then Some 9 else
-    (if not (is_unprotected cpu) then Some 20 else None)))))))))
+    (if not pointer then Some 9 else None))))))))
 
 is_chain : (cpu : Cpu) → broken cpu ≡ chain (flags_are_valid cpu) (pointer_is_valid cpu) cpu
 unfolding broken
@@ -39,7 +38,7 @@ onward false n x h = cc
 
 pointer_passed : (p : Bool) (cpu : Cpu) → chain true p cpu ≡ None → p ≡ true
 pointer_passed p cpu h =
-    let rest = if not (is_unprotected cpu) then Some 20 else None in
+    let rest : Option ℕ = None in
     let at9 = if not p then Some 9 else rest in
     let at8 = if not (code_is_valid cpu) then Some 8 else at9 in
     let at7 = if not (level_is_valid cpu) then Some 7 else at8 in

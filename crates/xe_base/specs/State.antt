@@ -135,10 +135,6 @@ code_is_valid cpu = needs (is_long cpu) (not (seg_db cpu.cs))
 abbrev pub pointer_is_valid : Cpu → Bool
 pointer_is_valid cpu = is_long cpu || nat_lt cpu.rip (2 ^ 32)
 
--- in force until protected mode runs: PE is 0
-abbrev pub is_unprotected : Cpu → Bool
-is_unprotected cpu = not (pe cpu)
-
 -- the number of the first rule that a state breaks
 unfoldable pub broken : Cpu → Option ℕ
 broken cpu =
@@ -150,8 +146,7 @@ broken cpu =
     (if not (segments_are_valid cpu) then Some 6 else
     (if not (level_is_valid cpu) then Some 7 else
     (if not (code_is_valid cpu) then Some 8 else
-    (if not (pointer_is_valid cpu) then Some 9 else
-    (if not (is_unprotected cpu) then Some 20 else None)))))))))
+    (if not (pointer_is_valid cpu) then Some 9 else None))))))))
 
 -- no rule is broken
 abbrev pub Valid : Cpu → Type 0

@@ -64,7 +64,7 @@ pub enum CodeSize {
 /// The rule of a valid state that is broken.
 ///
 /// 1 the flags; 2 CR0; 3 CR4; 4 EFER; 5 CR3 and CR8; 6 the segments' attributes and bases; 7 CPL;
-/// 8 CS.L with CS.DB; 9 the instruction pointer; and for now 20: protected mode does not run yet.
+/// 8 CS.L with CS.DB; 9 the instruction pointer.
 #[derive(Clone, Copy, PartialEq, Eq, Debug)]
 pub struct BadState {
     pub rule: u8,
@@ -341,8 +341,6 @@ impl Cpu {
             8
         } else if !self.pointer_is_valid() {
             9
-        } else if self.pe() {
-            20
         } else {
             return Ok(());
         };

@@ -53,10 +53,22 @@ fn checks_each_rule(rt: HostRuntime) -> Result<(), Fail> {
         .check(),
         Err(BadState { rule: 9 })
     );
+    let wide = Seg {
+        attr: 0x69B,
+        ..start.cs
+    };
     assert_eq!(rt;
-        Cpu { cr0: 0x11, ..start }.check(),
-        Err(BadState { rule: 20 })
+        Cpu {
+            cr0: 0x8000_0011,
+            cr4: 0x20,
+            efer: 0x500,
+            cs: wide,
+            ..start
+        }
+        .check(),
+        Err(BadState { rule: 8 })
     );
+    assert_eq!(rt; Cpu { cr0: 0x11, ..start }.check(), Ok(()));
     Ok(())
 }
 

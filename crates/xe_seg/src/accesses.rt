@@ -52,7 +52,7 @@ fn segment_fault(cpu: &Cpu, seg: SegName) -> Fault
 }
 
 /// #GP(0); without a code in real mode.
-pub(crate) fn protection_fault(cpu: &Cpu) -> Fault
+pub fn protection_fault(cpu: &Cpu) -> Fault
     ensures { result ≡ protection_fault cpu.now }
 {
     Fault::with_code(cpu.mode(), GENERAL_PROTECTION, 0)

@@ -10,28 +10,28 @@ use xe_base::access::{GENERAL_PROTECTION, SEGMENT_NOT_PRESENT, STACK_FAULT};
 use xe_base::{Cpu, Fault, Mode, Seg, SegName};
 
 /// RPL: the privilege level that a selector asks for.
-fn rpl(sel: u16) -> u8
+pub fn rpl(sel: u16) -> u8
     ensures { result ≡ rpl_of sel }
 {
     (sel % 4) as u8
 }
 
 /// Whether a selector is null, whatever its RPL.
-fn is_null(sel: u16) -> bool
+pub fn is_null(sel: u16) -> bool
     ensures { result ≡ is_null sel }
 {
     sel / 4 == 0
 }
 
 /// An exception whose error code is the selector without its RPL.
-fn selector_fault(cpu: &Cpu, vector: u8, sel: u16) -> Fault
+pub fn selector_fault(cpu: &Cpu, vector: u8, sel: u16) -> Fault
     ensures { result ≡ selector_fault cpu.now vector sel }
 {
     Fault::with_code(cpu.mode(), vector, (sel - sel % 4) as u32)
 }
 
 /// The register after the load of a null selector.
-fn null_segment(sel: u16) -> Seg
+pub fn null_segment(sel: u16) -> Seg
     ensures { result ≡ null_segment sel }
 {
     Seg {
@@ -43,14 +43,14 @@ fn null_segment(sel: u16) -> Seg
 }
 
 /// The attributes with the accessed bit set.
-fn accessed(attr: u16) -> u16
+pub fn accessed(attr: u16) -> u16
     ensures { result ≡ accessed attr }
 {
     attr - attr % 2 + 1
 }
 
 /// The register after the load of a code or data segment.
-fn loaded(sel: u16, desc: &Descriptor) -> Seg
+pub fn loaded(sel: u16, desc: &Descriptor) -> Seg
     ensures { result ≡ loaded sel desc.now }
 {
     Seg {
