@@ -29,6 +29,7 @@ use Rattle.xe_ctx.specs.declared.operand.Operand.{Operand}
 use Rattle.xe_ctx.specs.declared.operand.Operand.TheVariants.{Register, Memory}
 use Rattle.xe_ctx.specs.declared.stop.Finish.{Finish}
 use Rattle.xe_ctx.proofs.BoundLaws.{takes_more, takes_then, takes_if}
+use Rattle.xe_ctx.proofs.RowBounds.{Small, small-1, small-2, small-4, small-8, small-of, small-if, read, fetch, write}
 use Rattle.xe_arith.specs.Alu.{alu_row, cmp_row, test_row}
 use Rattle.xe_arith.specs.Bit.{bt_row, bit_row, scan_row}
 use Rattle.xe_arith.specs.Condition.{cmov_row, set_row}
@@ -45,80 +46,33 @@ use Rattle.xe_arith.specs.Unary.{unary_size, unary_row}
 use Rattle.xe_arith.specs.declared.source.Source.{Source}
 use Rattle.xe_arith.specs.declared.source.Source.TheVariants.{Number, Place}
 
--- ---- sizes of operands
-
-record Small (n : ℕ) : Type 0 where
-  chunks : most n ≤ 4
-  bytes : n ≤ 8
-
-small-1 : Small 1
-small-1 = record { chunks = lit≤ tt; bytes = lit≤ tt }
-
-small-2 : Small 2
-small-2 = record { chunks = lit≤ tt; bytes = lit≤ tt }
-
-small-4 : Small 4
-small-4 = record { chunks = lit≤ tt; bytes = lit≤ tt }
-
-small-8 : Small 8
-small-8 = record { chunks = lit≤ tt; bytes = lit≤ tt }
-
-small-of : (n : ℕ) → IsSize n → Small n
-small-of n h =
-    elim (or_cases _ _ h) [
-      | inl h ↦ elim (or_cases _ _ h) [
-        | inl h ↦ subst Small (sym (eqb-true n 2 h)) small-2
-        | inr h ↦ subst Small (sym (eqb-true n 4 h)) small-4
-      ]
-      | inr h ↦ subst Small (sym (eqb-true n 8 h)) small-8
-    ]
-
-small-if : (choice : Bool) (a b : ℕ) → Small a → Small b → Small (if choice then a else b)
-small-if true a b s t = s
-small-if false a b s t = t
-
 -- ---- the parts of a row
 
 module _ (insn : Insn) (cpu : Cpu) where
-  read : (operand : Operand) (n : ℕ) → Small n → TakesAtMost 1 4 10 (read_operand insn cpu operand n)
-  unfolding read_operand load
-  read (Register r) n s = tt
-  read (Memory seg offset) n s = (record { one = lit≤ tt; accesses_ = s.chunks; bytes_ = lit≤ tt }, λ a. tt)
-
-  fetch : (operand : Operand) (n : ℕ) → Small n → TakesAtMost 1 4 10 (read_for_write insn cpu operand n)
-  unfolding read_for_write load_for_write
-  fetch (Register r) n s = tt
-  fetch (Memory seg offset) n s = (record { one = lit≤ tt; accesses_ = s.chunks; bytes_ = lit≤ tt }, λ a. tt)
-
-  write : (after : Cpu) (operand : Operand) (n value : ℕ) → Small n → TakesAtMost 1 4 18 (write_operand insn after operand n value)
-  unfolding write_operand store ◌>>=◌
-  write after (Register r) n value s = tt
-  write after (Memory seg offset) n value s = (let b = s.bytes in record { one = lit≤ tt; accesses_ = s.chunks; bytes_ = omega arith }, λ a. tt)
-
   source : (from : Source) (n : ℕ) → Small n → TakesAtMost 1 4 10 (read_source insn cpu from n)
   unfolding read_source
   source (Number value) n s = tt
-  source (Place operand) n s = read operand n s
+  source (Place operand) n s = read insn cpu operand n s
 
   back : (after : Cpu) (operand : Operand) (n value : ℕ) → Small n → TakesAtMost 1 4 18 (put_back insn after operand n value)
   unfolding put_back
   back after (Register r) n value s = tt
-  back after (Memory seg offset) n value s = write after (Memory seg offset) n value s
+  back after (Memory seg offset) n value s = write insn cpu after (Memory seg offset) n value s
 
   chosen : (after : Cpu) (operand : Operand) (n value : ℕ) → Small n → TakesAtMost 1 4 18 (compared insn after operand n value)
   unfolding compared
-  chosen after operand n value s = takes_if 1 4 18 _ _ _ (write after operand n _ s) (back _ operand n value s)
+  chosen after operand n value s = takes_if 1 4 18 _ _ _ (write insn cpu after operand n _ s) (back _ operand n value s)
 
   -- an operand is read, and then nothing is asked
   read_alone : (operand : Operand) (n : ℕ) (f : ℕ → Tree Finish) → Small n → ((a : ℕ) → TakesAtMost 63 8 28 (f a)) → TakesAtMost 64 12 38 (read_operand insn cpu operand n >>= f)
-  read_alone operand n f s rest = takes_then f 63 8 28 rest 1 4 10 _ (read operand n s)
+  read_alone operand n f s rest = takes_then f 63 8 28 rest 1 4 10 _ (read insn cpu operand n s)
 
   -- an operand is read and written
   read_and_written : (operand : Operand) (n : ℕ) (f : ℕ → Tree Finish) → Small n → ((a : ℕ) → TakesAtMost 63 8 28 (f a)) → TakesAtMost 64 12 38 (read_for_write insn cpu operand n >>= f)
-  read_and_written operand n f s rest = takes_then f 63 8 28 rest 1 4 10 _ (fetch operand n s)
+  read_and_written operand n f s rest = takes_then f 63 8 28 rest 1 4 10 _ (fetch insn cpu operand n s)
 
   last : (after : Cpu) (operand : Operand) (n value : ℕ) (f : Cpu → Tree Finish) → Small n → ((c : Cpu) → TakesAtMost 62 4 10 (f c)) → TakesAtMost 63 8 28 (write_operand insn after operand n value >>= f)
-  last after operand n value f s rest = takes_then f 62 4 10 rest 1 4 18 _ (write after operand n value s)
+  last after operand n value f s rest = takes_then f 62 4 10 rest 1 4 18 _ (write insn cpu after operand n value s)
 
 -- ---- both halves of a pair
 

@@ -39,9 +39,9 @@ use Rattle.xe_arith.specs.Sized.{low, with_flags}
 use Rattle.xe_flags.specs.Decimals.{bcd_ax, bcd_flags}
 use Rattle.xe_arith.specs.Shift.{shift_row, double_row}
 use Rattle.xe_arith.specs.Unary.{unary_row}
-use Rattle.xe_arith.specs.Plain.{EndsPlainly}
+use Rattle.xe_ctx.specs.Plain.{EndsPlainly}
 use Rattle.xe_arith.specs.Rows.{row_at, or_undefined, row_of, is_row}
-use Rattle.xe_arith.proofs.Tame.{Tame, tame_same, tame_flags, tame_register, tame_operand, tame_if, plain_end, plain_sound, asked_then, written_end, each_if}
+use Rattle.xe_ctx.proofs.Tame.{Tame, tame_same, tame_flags, tame_register, tame_operand, tame_if, plain_end, plain_sound, asked_then, written_end, each_if}
 
 -- DF is none of the bits that no instruction changes
 fixed_placed : (down : Bool) → bit_and (at_place down 10) (2 ^ 64 - 1 - 0x247FD5) ≡ 0

@@ -1,4 +1,3 @@
-pub mod Tame
 pub mod CalmRows
 pub mod BoundRows
 pub mod TestLaws

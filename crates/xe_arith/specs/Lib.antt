@@ -12,4 +12,3 @@ pub mod Decimal
 pub mod Bit
 pub mod Exchange
 pub mod Rows
-pub mod Plain

@@ -7,7 +7,7 @@ ghost use Rattle.xe_opmap.specs.declared.insn.Insn.{Insn};
 ghost use Rattle.xe_ctx.specs.Bounds.{TakesAtMost};
 ghost use Rattle.xe_ctx.specs.Finishes.{EachGives, IsSound};
 ghost use Rattle.xe_ctx.specs.Operand.{IsOf};
-ghost use Rattle.xe_arith.specs.Plain.{EndsPlainly};
+ghost use Rattle.xe_ctx.specs.Plain.{EndsPlainly};
 ghost use Rattle.xe_arith.specs.Rows.{is_row, row_of};
 
 /// Each instruction of this crate's rows that finishes has changed general registers, the instruction

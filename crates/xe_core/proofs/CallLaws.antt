@@ -13,7 +13,7 @@ use Rattle.xe_opmap.specs.declared.insn.Insn.{Insn}
 use Rattle.xe_opmap.specs.declared.row.Row.{Row}
 use Rattle.xe_ctx.specs.Accept.{accepted}
 use Rattle.xe_ctx.specs.Bus.{BusView}
-use Rattle.xe_ctx.specs.Call.{is_plain, Tried, Reports, judged, told_by, left_by, state_by, why_by}
+use Rattle.xe_core.specs.Call.{is_plain, Tried, Reports, judged, told_by, left_by, state_by, why_by}
 use Rattle.xe_ctx.specs.Ending.{Ending, Raises, Exits, Interrupts, HandsOver, stop_of}
 use Rattle.xe_ctx.specs.Finishes.{IsSound}
 use Rattle.xe_ctx.specs.Is.{Sight, Is, Stood}
@@ -23,7 +23,7 @@ use Rattle.xe_ctx.specs.Part.{View, begins}
 use Rattle.xe_ctx.specs.Run.{run}
 use Rattle.xe_ctx.specs.Runs.{finished}
 use Rattle.xe_ctx.specs.State.{State}
-use Rattle.xe_ctx.specs.Step.{step, stepped, executed, concluded, early, outcome_of, undefined_opcode, retired, tf, is_done}
+use Rattle.xe_core.specs.Step.{step, stepped, executed, concluded, early, outcome_of, undefined_opcode, retired, tf, is_done}
 use Rattle.xe_ctx.specs.Supply.{Supply}
 use Rattle.xe_ctx.specs.Tree.{Tree}
 use Rattle.xe_ctx.specs.View.{accepts, opens}
@@ -36,8 +36,8 @@ use Rattle.xe_ctx.specs.declared.stop.Finish.{Finish}
 use Rattle.xe_ctx.specs.declared.stop.Stop.{Stop}
 use Rattle.xe_ctx.specs.declared.stop.Stop.TheVariants as stops
 use Rattle.xe_ctx.proofs.FinishLaws.{gives_of}
-use Rattle.xe_ctx.proofs.Reporting.{reports}
-use Rattle.xe_ctx.proofs.Trying.{tried_early, tried_finish, tried_stop}
+use Rattle.xe_core.proofs.Reporting.{reports}
+use Rattle.xe_core.proofs.Trying.{tried_early, tried_finish, tried_stop}
 use Rattle.xe_core.specs.Emulate.{decided, fetched, step_of, after_by, Keepable}
 use Rattle.xe_core.specs.Rows.{table, DoesRow}
 use Rattle.xe_core.proofs.RowLaws.{sound_row}

@@ -1,4 +1,6 @@
-pub mod Valid
+pub mod Replays
+pub mod Trying
+pub mod Reporting
 pub mod RowLaws
 pub mod CallLaws
 pub mod TestLaws

@@ -12,7 +12,7 @@ use Rattle.xe_ctx.specs.declared.stop.Finish.{Finish}
 use Rattle.xe_arith.specs.Rows.{is_row, row_of}
 use Rattle.xe_arith.proofs.CalmRows.{rows_sound}
 use Rattle.xe_core.specs.Rows.{table, row_at, in_row, hlt_row, EachFinish}
-use Rattle.xe_core.proofs.Valid.{valid_next}
+use Rattle.xe_ctx.proofs.Rules.{valid_next}
 
 sound-in : (insn : Insn) (cpu : Cpu) → Valid cpu → EachGives IsSound (in_row insn cpu)
 unfolding ◌>>=◌ device point with_register

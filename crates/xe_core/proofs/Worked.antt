@@ -11,8 +11,8 @@ use Rattle.xe_ctx.specs.Fetch.{code_byte, avail_from, avail}
 use Rattle.xe_ctx.specs.Operand.{operand_of, read_operand, write_operand}
 use Rattle.xe_ctx.specs.Part.{give, stop, look, ask, ◌>>=◌ as ◌then◌}
 use Rattle.xe_ctx.specs.Run.{do_request}
-use Rattle.xe_ctx.specs.Call.{diverges}
-use Rattle.xe_ctx.specs.Step.{step}
+use Rattle.xe_core.specs.Call.{diverges}
+use Rattle.xe_core.specs.Step.{step}
 use Rattle.xe_ctx.specs.Tape.{ask as reply}
 use Rattle.xe_ctx.specs.Tree.{◌>>=◌, device, point}
 use Rattle.xe_arith.specs.Source.{read_source}

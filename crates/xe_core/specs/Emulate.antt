@@ -14,7 +14,7 @@ use Rattle.xe_opmap.specs.declared.insn.Insn.{Insn}
 use Rattle.xe_ctx.specs.Ending.{Ending, stop_of}
 use Rattle.xe_ctx.specs.Fetch.{avail}
 use Rattle.xe_ctx.specs.State.{State}
-use Rattle.xe_ctx.specs.Step.{Stepped, step, outcome_of, undefined_opcode, is_done}
+use Rattle.xe_core.specs.Step.{Stepped, step, outcome_of, undefined_opcode, is_done}
 use Rattle.xe_ctx.specs.Supply.{Supply}
 use Rattle.xe_ctx.specs.declared.report.Outcome.{Outcome}
 use Rattle.xe_ctx.specs.declared.report.Outcome.TheVariants.{Pending, BusFault, Unhandled}

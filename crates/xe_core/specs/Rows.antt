@@ -14,7 +14,7 @@ use Rattle.xe_ctx.specs.Finishes.{EachGives}
 use Rattle.xe_ctx.specs.Is.{Sight, Is}
 use Rattle.xe_ctx.specs.Operand.{ax, ends}
 use Rattle.xe_ctx.specs.Runs.{finished}
-use Rattle.xe_ctx.specs.Step.{Table}
+use Rattle.xe_core.specs.Step.{Table}
 use Rattle.xe_ctx.specs.Tree.{Tree, ◌>>=◌, give, device, point}
 use Rattle.xe_ctx.specs.declared.stop.End.{End}
 use Rattle.xe_ctx.specs.declared.stop.Finish.{Finish}

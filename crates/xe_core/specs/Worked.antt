@@ -9,7 +9,7 @@ use Rattle.xe_icpt.specs.declared.point.Point.{Point}
 use Rattle.xe_opmap.specs.declared.row.Row.{Row}
 use Rattle.xe_opmap.specs.declared.row.Row.TheVariants.{Mov, In, Hlt}
 use Rattle.xe_ctx.specs.State.{State}
-use Rattle.xe_ctx.specs.Call.{Call, one_call}
+use Rattle.xe_core.specs.Call.{Call, one_call}
 use Rattle.xe_ctx.specs.Kept.{Kept, nothing}
 use Rattle.xe_ctx.specs.Tape.{Tape, Item, Gives, Waits, empty_tape, fed}
 use Rattle.xe_ctx.specs.declared.report.Outcome.{Outcome}

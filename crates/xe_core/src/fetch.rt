@@ -2,7 +2,7 @@
 
 ghost use Rattle.std.specs.Prelude.{◌≡◌, ◌≤◌, [], IfOk};
 ghost use Rattle.xe_ctx.specs.Operand.{IsOf};
-ghost use Rattle.xe_ctx.specs.Step.{outcome_of};
+ghost use Rattle.xe_core.specs.Step.{outcome_of};
 ghost use Rattle.xe_ctx.specs.View.{view, cpu_of, state_in, SameHandles, IsOpen, accesses_left, bytes_left, fetched_of, code_of};
 ghost use Rattle.xe_core.specs.Emulate.{fetched};
 

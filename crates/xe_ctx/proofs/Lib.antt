@@ -11,7 +11,6 @@ pub mod Work
 pub mod Holes
 pub mod MachineLaws
 pub mod FetchLaws
-pub mod SegmentLaws
 pub mod Pieces
 pub mod Stores
 pub mod Calls
@@ -21,6 +20,6 @@ pub mod NextLaws
 pub mod FinishLaws
 pub mod Cover
 pub mod BoundLaws
-pub mod Replays
-pub mod Reporting
-pub mod Trying
+pub mod Rules
+pub mod Tame
+pub mod RowBounds

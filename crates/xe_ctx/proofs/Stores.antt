@@ -2,10 +2,10 @@ use Rattle.std.proofs.Common.{ℕ, ◌≡◌, ◌<◌, ◌≤◌, ◌+◌, ◌-�
 use Rattle.std.proofs.lemmas.Bool.{cases_lt}
 use Rattle.std.proofs.lemmas.List.{take_all, length-drop, length-take}
 use Rattle.xe_base.specs.Ram.{Area, put_bytes}
-use Rattle.xe_base.specs.State.{address_bits}
+use Rattle.xe_walk.specs.declared.rights.Kind.{Kind}
 use Rattle.xe_ctx.specs.Chunks.{chunks, is_size, most}
 use Rattle.xe_ctx.specs.Is.{Sight, Does}
-use Rattle.xe_ctx.specs.Memory.{next_page, place, are_ram, write_if, write_bytes, write_place, devices_write, width, store_at}
+use Rattle.xe_ctx.specs.Memory.{bits_of, next_page, place, are_ram, write_if, write_bytes, write_place, devices_write, width, store_at}
 use Rattle.xe_ctx.specs.Part.{View}
 use Rattle.xe_ctx.specs.declared.stop.Stop.{Stop}
 use Rattle.xe_ctx.proofs.Binds.{does_then, does_stop, does_look, does_change, gather_one, gather_first, gather_second, each_one, each_first, each_two, each_second}
@@ -22,7 +22,7 @@ module _ (v : Sight) (pa : ℕ) (bytes : List ℕ) where
   write_ram w step t e is = rw is (does_then _ (does_look _ v) (rw t (does_change _ v w e)))
 
 -- a store of one piece and of two
-module _ (la : ℕ) (bytes : List ℕ) where
+module _ (kind : Kind) (la : ℕ) (bytes : List ℕ) where
   whole : (pa : ℕ) {old new : Sight} {res : Result (Unit {0}) Stop} → Does (write_bytes pa bytes) old res new → Does (write_place bytes (record { pa = pa; at = 0; n = length bytes })) old res new
   unfolding write_place
   whole pa r = rw (take_all (length bytes) bytes (omega arith)) r
@@ -35,38 +35,38 @@ module _ (la : ℕ) (bytes : List ℕ) where
   unfolding write_place
   back pa r = r
 
-  pub store_one : length bytes ≤ 4096 - la % 4096 → {pa : ℕ} {old mid new : Sight} → Does (place true la) old (Ok pa) mid → Does (write_bytes pa bytes) mid (Ok tt) new → Does (store_at la bytes) old (Ok tt) new
+  pub store_one : length bytes ≤ 4096 - la % 4096 → {pa : ℕ} {old mid new : Sight} → Does (place kind la) old (Ok pa) mid → Does (write_bytes pa bytes) mid (Ok tt) new → Does (store_at kind la bytes) old (Ok tt) new
   unfolding store_at width
-  store_one h r t = does_then _ (does_look _ _) (does_then _ (place-one true _ la (length bytes) h r) (each_one _ _ (whole _ t)))
+  store_one h r t = does_then _ (does_look _ _) (does_then _ (place-one kind _ la (length bytes) h r) (each_one _ _ (whole _ t)))
 
-  pub store_one_stop : length bytes ≤ 4096 - la % 4096 → {pa : ℕ} {s : Stop} {old mid new : Sight} → Does (place true la) old (Ok pa) mid → Does (write_bytes pa bytes) mid (Err s) new → Does (store_at la bytes) old (Err s) new
+  pub store_one_stop : length bytes ≤ 4096 - la % 4096 → {pa : ℕ} {s : Stop} {old mid new : Sight} → Does (place kind la) old (Ok pa) mid → Does (write_bytes pa bytes) mid (Err s) new → Does (store_at kind la bytes) old (Err s) new
   unfolding store_at width
-  store_one_stop h r t = does_then _ (does_look _ _) (does_then _ (place-one true _ la (length bytes) h r) (each_first _ _ [] (whole _ t)))
+  store_one_stop h r t = does_then _ (does_look _ _) (does_then _ (place-one kind _ la (length bytes) h r) (each_first _ _ [] (whole _ t)))
 
-  pub store_no_place : {s : Stop} {old new : Sight} → Does (place true la) old (Err s) new → Does (store_at la bytes) old (Err s) new
+  pub store_no_place : {s : Stop} {old new : Sight} → Does (place kind la) old (Err s) new → Does (store_at kind la bytes) old (Err s) new
   unfolding store_at width
-  store_no_place r = does_then _ (does_look _ _) (does_stop _ (place-none true _ la (length bytes) r))
+  store_no_place r = does_then _ (does_look _ _) (does_stop _ (place-none kind _ la (length bytes) r))
 
-  module _ (h : 4096 - la % 4096 < length bytes) {next pa : ℕ} {old mid : Sight} (is : next ≡ next_page (address_bits old.step.start.cpu) la) (r : Does (place true la) old (Ok pa) mid) where
-    pub store_no_second : {s : Stop} {new : Sight} → Does (place true next) mid (Err s) new → Does (store_at la bytes) old (Err s) new
+  module _ (h : 4096 - la % 4096 < length bytes) {next pa : ℕ} {old mid : Sight} (is : next ≡ next_page (bits_of old.step.start.cpu kind) la) (r : Does (place kind la) old (Ok pa) mid) where
+    pub store_no_second : {s : Stop} {new : Sight} → Does (place kind next) mid (Err s) new → Does (store_at kind la bytes) old (Err s) new
     unfolding store_at width
-    store_no_second t = does_then _ (does_look _ _) (does_stop _ (place-second true _ la (length bytes) h is r t))
+    store_no_second t = does_then _ (does_look _ _) (does_stop _ (place-second kind _ la (length bytes) h is r t))
 
-    module _ {pb : ℕ} {both : Sight} (t : Does (place true next) mid (Ok pb) both) where
-      pub store_first_stops : {s : Stop} {new : Sight} → Does (write_bytes pa (take (4096 - la % 4096) bytes)) both (Err s) new → Does (store_at la bytes) old (Err s) new
+    module _ {pb : ℕ} {both : Sight} (t : Does (place kind next) mid (Ok pb) both) where
+      pub store_first_stops : {s : Stop} {new : Sight} → Does (write_bytes pa (take (4096 - la % 4096) bytes)) both (Err s) new → Does (store_at kind la bytes) old (Err s) new
       unfolding store_at width
-      store_first_stops x = does_then _ (does_look _ _) (does_then _ (place-two true _ la (length bytes) h is r t) (each_first _ _ _ (front _ x)))
+      store_first_stops x = does_then _ (does_look _ _) (does_then _ (place-two kind _ la (length bytes) h is r t) (each_first _ _ _ (front _ x)))
 
       module _ {part : Sight} (x : Does (write_bytes pa (take (4096 - la % 4096) bytes)) both (Ok tt) part) where
-        pub store_second_stops : {s : Stop} {new : Sight} → Does (write_bytes pb (take (length bytes - (4096 - la % 4096)) (drop (4096 - la % 4096) bytes))) part (Err s) new → Does (store_at la bytes) old (Err s) new
+        pub store_second_stops : {s : Stop} {new : Sight} → Does (write_bytes pb (take (length bytes - (4096 - la % 4096)) (drop (4096 - la % 4096) bytes))) part (Err s) new → Does (store_at kind la bytes) old (Err s) new
         unfolding store_at width
-        store_second_stops y = does_then _ (does_look _ _) (does_then _ (place-two true _ la (length bytes) h is r t) (each_second _ _ _ (front _ x) (back _ y)))
+        store_second_stops y = does_then _ (does_look _ _) (does_then _ (place-two kind _ la (length bytes) h is r t) (each_second _ _ _ (front _ x) (back _ y)))
 
-        pub store_two : {new : Sight} → Does (write_bytes pb (take (length bytes - (4096 - la % 4096)) (drop (4096 - la % 4096) bytes))) part (Ok tt) new → Does (store_at la bytes) old (Ok tt) new
+        pub store_two : {new : Sight} → Does (write_bytes pb (take (length bytes - (4096 - la % 4096)) (drop (4096 - la % 4096) bytes))) part (Ok tt) new → Does (store_at kind la bytes) old (Ok tt) new
         unfolding store_at width
-        store_two y = does_then _ (does_look _ _) (does_then _ (place-two true _ la (length bytes) h is r t) (each_two _ _ _ (front _ x) (back _ y)))
+        store_two y = does_then _ (does_look _ _) (does_then _ (place-two kind _ la (length bytes) h is r t) (each_two _ _ _ (front _ x) (back _ y)))
 
-        pub store_last : (res : Result (Unit {0}) Stop) {new : Sight} → Does (write_bytes pb (take (length bytes - (4096 - la % 4096)) (drop (4096 - la % 4096) bytes))) part res new → Does (store_at la bytes) old res new
+        pub store_last : (res : Result (Unit {0}) Stop) {new : Sight} → Does (write_bytes pb (take (length bytes - (4096 - la % 4096)) (drop (4096 - la % 4096) bytes))) part res new → Does (store_at kind la bytes) old res new
         store_last (Ok u) y = store_two y
         store_last (Err e) y = store_second_stops y
 

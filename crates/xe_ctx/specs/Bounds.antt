@@ -1,7 +1,7 @@
 use Rattle.std.specs.Prelude.{ℕ, ◌+◌, ◌-◌, ◌≤◌}
 use Rattle.xe_base.specs.declared.access.Answer.{Answer}
 use Rattle.xe_ctx.specs.Chunks.{most}
-use Rattle.xe_ctx.specs.Tree.{Tree, asks, fault, event, handoff, give, Request, Load, LoadForWrite, Probe, Store, Device, Check}
+use Rattle.xe_ctx.specs.Tree.{Tree, asks, fault, event, handoff, give, Request, Load, LoadForWrite, Probe, Store, Device, Check, SysLoad, SysStore}
 
 -- How much of a step an instruction takes at most, whatever the answers are. A step has room for 256 accesses, and for 1,024 bytes of RAM that it touches.
 
@@ -13,6 +13,8 @@ accesses_of (Probe seg offset n) = 0
 accesses_of (Store seg offset n value) = most n
 accesses_of (Device a) = 1
 accesses_of (Check p) = 0
+accesses_of (SysLoad la n) = most n
+accesses_of (SysStore la n value) = most n
 
 -- the bytes of RAM that a request touches: those that it writes, and, of page tables, one byte for each entry on the way to at most two pages, of which each
 -- has at most five
@@ -23,6 +25,8 @@ touched_by (Probe seg offset n) = 10
 touched_by (Store seg offset n value) = 10 + n
 touched_by (Device a) = 0
 touched_by (Check p) = 0
+touched_by (SysLoad la n) = 10
+touched_by (SysStore la n value) = 10 + n
 
 -- there is room for one more request
 pub record Affords (requests accesses bytes : ℕ) (r : Request) : Type 0 where

@@ -8,7 +8,7 @@ pub mod Kept
 pub mod Recorded
 pub mod Part
 pub mod Chunks
-pub mod Segment
+pub mod Translate
 pub mod Memory
 pub mod Tree
 pub mod Run
@@ -20,10 +20,12 @@ pub mod Accept
 pub mod View
 pub mod Next
 pub mod Finishes
-pub mod Step
-pub mod Call
 pub mod Operand
 pub mod Runs
 pub mod Contract
 pub mod Definition
 pub mod Bounds
+pub mod Privilege
+pub mod Stack
+pub mod Ports
+pub mod Plain

@@ -3,15 +3,17 @@ use Rattle.std.specs.List.{range_with_len}
 use Rattle.xe_base.specs.Access.{number_of}
 use Rattle.xe_base.specs.Bytes.{num, le}
 use Rattle.xe_base.specs.Ram.{Area, in_ram, bytes_of, put_bytes}
-use Rattle.xe_base.specs.State.{address_bits}
+use Rattle.xe_base.specs.State.{is_long, lma}
 use Rattle.xe_base.specs.declared.access.Access.{Access}
 use Rattle.xe_base.specs.declared.access.Fault.{Fault}
 use Rattle.xe_base.specs.declared.access.Space.TheVariants.{Mem}
+use Rattle.xe_base.specs.declared.cpu.Cpu.{Cpu}
 use Rattle.xe_base.specs.declared.segment.SegName.{SegName}
+use Rattle.xe_seg.specs.Accesses.{access}
+use Rattle.xe_walk.specs.declared.rights.Kind.{Kind}
 use Rattle.xe_ctx.specs.Chunks.{chunks}
 use Rattle.xe_ctx.specs.Ending.{Raises}
 use Rattle.xe_ctx.specs.Part.{Part, ◌>>=◌, give, stop, look, change, ask, gather, each}
-use Rattle.xe_ctx.specs.Segment.{linear_of}
 use Rattle.xe_ctx.specs.declared.chunk.Chunk.{Chunk}
 
 -- Accesses to memory: the segment check, the cut at page ends, the translation of all pieces, and then the bytes, piece by piece from the lowest on.
@@ -43,6 +45,28 @@ devices_read pa n = gather chunk_read (chunks pa n)
 -- the bytes go to devices
 unfoldable pub devices_write : ℕ → List ℕ → Part (Unit {0})
 devices_write pa bytes = each (chunk_write bytes) (chunks pa (length bytes))
+
+-- ---- kinds
+
+-- an access to data, through a segment
+abbrev pub data_kind : Bool → Kind
+data_kind write = record { write = write; fetch = false; system = false }
+
+-- an access of the processor's own to a descriptor table or the TSS
+abbrev pub system_kind : Bool → Kind
+system_kind write = record { write = write; fetch = false; system = true }
+
+-- in how many bits the addresses of a system access wrap: in all modes of long mode they have 64 (SDM volume 3, "Segmentation in IA-32e Mode")
+abbrev pub system_bits : Cpu → ℕ
+system_bits cpu = if lma cpu then 64 else 32
+
+-- the addresses of an access of this kind have 64 bits, and not 32
+abbrev pub is_wide : Cpu → Kind → Bool
+is_wide cpu kind = if kind.system then lma cpu else is_long cpu
+
+-- in how many bits they wrap
+abbrev pub bits_of : Cpu → Kind → ℕ
+bits_of cpu kind = if is_wide cpu kind then 64 else 32
 
 -- ---- pieces
 
@@ -81,13 +105,13 @@ IsInPage p = p.la % 4096 + p.n ≤ 4096
 abbrev pub IsPieceOf : ℕ → ℕ → Piece → Type 0
 IsPieceOf bits la p = p.la ≡ (la + p.at) % 2 ^ bits
 
--- the physical address of a linear one, to be written or read; without paging it is the same
-unfoldable pub place : Bool → ℕ → Part ℕ
-place write la = give la
+-- the physical address of a linear one
+unfoldable pub place : Kind → ℕ → Part ℕ
+place kind la = give (la % 2 ^ 40)
 
-unfoldable pub place_piece : Bool → Piece → Part (List Place)
-place_piece write p = do
-  pa ← place write p.la
+unfoldable pub place_piece : Kind → Piece → Part (List Place)
+place_piece kind p = do
+  pa ← place kind p.la
   give (record { pa = pa; at = p.at; n = p.n } ∷ [])
 
 -- ---- bytes
@@ -120,27 +144,27 @@ write_bytes pa bytes = do
 unfoldable pub write_place : List ℕ → Place → Part (Unit {0})
 write_place bytes p = write_bytes p.pa (take p.n (drop p.at bytes))
 
--- how many bits linear addresses have in this step
-unfoldable pub width : Part ℕ
-width = look (λ v. address_bits v.start.cpu)
+-- how many bits the linear addresses of such an access have in this step
+unfoldable pub width : Kind → Part ℕ
+width kind = look (λ v. bits_of v.start.cpu kind)
 
 -- all pieces are translated before any byte moves
-unfoldable pub load_at : Bool → ℕ → ℕ → Part (List ℕ)
-load_at write la n = do
-  bits ← width
-  places ← gather (place_piece write) (pieces bits la n)
+unfoldable pub load_at : Kind → ℕ → ℕ → Part (List ℕ)
+load_at kind la n = do
+  bits ← width kind
+  places ← gather (place_piece kind) (pieces bits la n)
   gather read_place places
 
-unfoldable pub store_at : ℕ → List ℕ → Part (Unit {0})
-store_at la bytes = do
-  bits ← width
-  places ← gather (place_piece true) (pieces bits la (length bytes))
+unfoldable pub store_at : Kind → ℕ → List ℕ → Part (Unit {0})
+store_at kind la bytes = do
+  bits ← width kind
+  places ← gather (place_piece kind) (pieces bits la (length bytes))
   each (write_place bytes) places
 
 unfoldable pub probe_at : ℕ → ℕ → Part (Unit {0})
 probe_at la n = do
-  bits ← width
-  _ ← gather (place_piece true) (pieces bits la n)
+  bits ← width (data_kind true)
+  _ ← gather (place_piece (data_kind true)) (pieces bits la n)
   give tt
 
 -- ---- the segment
@@ -152,5 +176,11 @@ judged (Err f) = stop (Raises f)
 -- the linear address, or the exception
 unfoldable pub locate : SegName → ℕ → ℕ → Bool → Part ℕ
 locate seg offset n write = do
-  found ← look (λ v. linear_of v.start.cpu seg offset n write)
+  found ← look (λ v. access v.start.cpu seg offset n write)
   judged found
+
+-- ---- the system's addresses
+
+-- the linear address of a system access: no segment, no check; cut to the width that it has in this mode
+unfoldable pub system_address : ℕ → Part ℕ
+system_address la = look (λ v. la % 2 ^ system_bits v.start.cpu)

@@ -9,7 +9,8 @@ use Rattle.xe_ctx.specs.Ending.{Ending, Raises, Interrupts, HandsOver}
 use Rattle.xe_ctx.specs.declared.stop.Event.{Event}
 use Rattle.xe_ctx.specs.declared.stop.Handoff.{Handoff}
 
--- What an instruction may ask of the step that it is part of. Memory is named by a segment, an offset in it and a number of bytes.
+-- What an instruction may ask of the step that it is part of. Memory is named by a segment, an offset in it and a number of bytes; that of the system by a
+-- linear address.
 pub data Request : Type 0 where
   -- the number that the bytes are, the lowest first
   Load : SegName → ℕ → ℕ → Request
@@ -23,6 +24,10 @@ pub data Request : Type 0 where
   Device : Access → Request
   -- what is about to happen, and may be intercepted
   Check : Point → Request
+  -- the number that the bytes of a descriptor table or of the TSS are: at a linear address, without a segment check
+  SysLoad : ℕ → ℕ → Request
+  -- the low bytes of a number are written there
+  SysStore : ℕ → ℕ → ℕ → Request
 
 -- what a part of an instruction does: a request and how it goes on from the answer, an end, or a value
 pub data Tree (T : Type 0) : Type 0 where
@@ -60,6 +65,12 @@ device a = asks (Device a) give
 
 unfoldable pub point : Point → Tree (Unit {0})
 point p = asks (Check p) (λ _. give tt)
+
+unfoldable pub load_sys : ℕ → ℕ → Tree ℕ
+load_sys la n = asks (SysLoad la n) (λ a. give (number_of a))
+
+unfoldable pub store_sys : ℕ → ℕ → ℕ → Tree (Unit {0})
+store_sys la n value = asks (SysStore la n value) (λ _. give tt)
 
 -- ---- the next request
 

@@ -10,8 +10,11 @@ pub mod machine;
 mod memory;
 pub mod operand;
 mod overlay;
+pub mod ports;
+pub mod privilege;
 pub mod record;
 pub mod report;
+pub mod stack;
 pub mod stop;
 
 pub use bus::{Bus, Reply};

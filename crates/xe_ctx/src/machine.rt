@@ -3,7 +3,6 @@
 ghost use Rattle.std.specs.Prelude.{◌≡◌, ◌+◌, ◌≤◌, ◌++◌, length, All, true};
 ghost use Rattle.xe_base.specs.Ram.{in_ram};
 ghost use Rattle.xe_base.specs.State.{Valid};
-ghost use Rattle.xe_ctx.specs.Segment.{segment_vector};
 ghost use Rattle.xe_ctx.specs.Work.{patched};
 ghost use Rattle.xe_ctx.specs.declared.overlay.Cell.{Cell};
 
@@ -11,7 +10,7 @@ use crate::chunk::append;
 use crate::overlay::{Cell, load_patched, push_cells};
 use crate::stop::{Handoff, Stop};
 use arrayvec::ArrayVec;
-use xe_base::{BadState, Cpu, Fault, GENERAL_PROTECTION, Made, STACK_FAULT, SegName};
+use xe_base::{BadState, Cpu, Fault, GENERAL_PROTECTION, Made};
 use xe_mem::{GuestMem, Region};
 
 /// The lists of the running step. They stay here from one step to the next, and a step begins by
@@ -50,7 +49,6 @@ impl Machine {
     ghost use Rattle.xe_ctx.specs.Fetch.{avail, code_byte, fetch_fault, IsRun};
     ghost use Rattle.xe_ctx.specs.Machine.{state_of, cells_of, made_of, work_of, CellsFit, first_hole};
     ghost use Rattle.xe_ctx.specs.Memory.{are_ram};
-    ghost use Rattle.xe_ctx.specs.Segment.{linear_of};
 
     /// A machine with this RAM and these registers. Where they break a rule of a valid state, it
     /// answers the first such rule, and hands the RAM back.
@@ -229,28 +227,6 @@ impl Machine {
         self.fetch_fault()
     }
 
-    /// The linear address of `n` bytes at an offset of a segment; or the exception that the access
-    /// raises (SDM volume 3, "Limit Checking").
-    #[tactic(auto, using(crate::proofs::SegmentLaws::limit_rules), unfolding(crate::specs::Segment::linear_of))]
-    pub(crate) fn linear(
-        &self,
-        seg: SegName,
-        offset: u64,
-        n: u32,
-        write: bool,
-    ) -> Result<u64, Fault>
-        requires { 0 < n }
-        ensures is { result ≡ linear_of (state_of self.now).cpu seg offset n write }
-        ensures below { IfOk result (λ la. la < 2 ^ 32) }
-    {
-        let segment = self.cpu.segment(seg);
-        let limit = segment.limit as u64;
-        if offset > limit || (n - 1) as u64 > limit - offset {
-            return Err(Fault::with_code(self.cpu.mode(), segment_vector(seg), 0));
-        }
-        Ok(segment.base.wrapping_add(offset) % (1 << 32))
-    }
-
     /// Whether each of the `n` bytes is RAM.
     pub(crate) fn is_ram(&self, pa: u64, n: u64) -> bool
         ensures { result ≡ are_ram (state_of self.now).ram pa n }
@@ -319,16 +295,5 @@ fn apply(mem: &mut GuestMem, cells: &[Cell])
 {
     for c in cells {
         mem.store(c.at, &[c.byte]);
-    }
-}
-
-/// The exception of a failed check: the stack fault for SS, general protection for the others (SDM
-/// volume 3, "Exceptions in Real-Address Mode").
-fn segment_vector(seg: SegName) -> u8
-    ensures { result ≡ segment_vector seg }
-{
-    match seg {
-        SegName::Ss => STACK_FAULT,
-        SegName::Es | SegName::Cs | SegName::Ds | SegName::Fs | SegName::Gs => GENERAL_PROTECTION,
     }
 }

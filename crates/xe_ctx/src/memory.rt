@@ -5,12 +5,11 @@
 ghost use Rattle.std.specs.Prelude.{◌≡◌, ℕ, ◌+◌, ◌-◌, ◌*◌, ◌<◌, ◌≤◌, ◌^◌, ◌%◌, length, Result, Ok, Err, Some, IfOk, IsTrue, true};
 ghost use Rattle.xe_base.specs.Access.{IsWellFormed, answers_to};
 ghost use Rattle.xe_base.specs.Bytes.{num};
-ghost use Rattle.xe_base.specs.State.{address_bits};
 ghost use Rattle.xe_ctx.specs.Chunks.{chunks, Within, IsChunkSize, is_size, most};
 ghost use Rattle.xe_ctx.specs.Is.{Does, Is, IsNext};
-ghost use Rattle.xe_ctx.specs.Memory.{chunk_read, chunk_write, devices_read, devices_write, next_page, place, read_place, write_bytes, load_at, store_at, probe_at, locate};
+ghost use Rattle.xe_ctx.specs.Memory.{data_kind, system_kind, system_bits, is_wide, bits_of, chunk_read, chunk_write, devices_read, devices_write, next_page, place, read_place, write_bytes, load_at, store_at, probe_at, locate};
 ghost use Rattle.xe_ctx.specs.Part.{ask};
-ghost use Rattle.xe_ctx.specs.Tree.{load, load_for_write, probe, store};
+ghost use Rattle.xe_ctx.specs.Tree.{load, load_for_write, probe, store, load_sys, store_sys};
 ghost use Rattle.xe_ctx.specs.View.{view, cpu_of, SameHandles, IsOpen, accesses_left, bytes_left, bytes_in};
 
 use crate::bus::{Bus, Reply};
@@ -20,6 +19,8 @@ use crate::stop::{Diverged, Stop};
 use arrayvec::ArrayVec;
 use xe_base::{Access, Answer, Made, SegName, Space};
 use xe_icpt::Intercepts;
+use xe_seg::check_access;
+use xe_walk::Kind;
 
 impl<'a, B: Bus, I: Intercepts> Ctx<'a, B, I> {
     /// Reads `n` bytes at an offset of a segment, the lowest first. Those outside RAM are read from
@@ -38,7 +39,7 @@ impl<'a, B: Bus, I: Intercepts> Ctx<'a, B, I> {
         ensures part { Is (load seg offset n) (view B.sight I.hits self.old) result (view B.sight I.hits self.new) }
     {
         let la = self.locate(seg, offset, n, false)?;
-        let bytes = self.load_at(la, n as usize, false)?;
+        let bytes = self.load_at(la, n as usize, data_kind(false))?;
         Ok(number_of(bytes.as_slice()))
     }
 
@@ -57,7 +58,7 @@ impl<'a, B: Bus, I: Intercepts> Ctx<'a, B, I> {
         ensures part { Is (load_for_write seg offset n) (view B.sight I.hits self.old) result (view B.sight I.hits self.new) }
     {
         let la = self.locate(seg, offset, n, true)?;
-        let bytes = self.load_at(la, n as usize, true)?;
+        let bytes = self.load_at(la, n as usize, data_kind(true))?;
         Ok(number_of(bytes.as_slice()))
     }
 
@@ -95,7 +96,57 @@ impl<'a, B: Bus, I: Intercepts> Ctx<'a, B, I> {
     {
         let la = self.locate(seg, offset, n, true)?;
         let bytes = bytes_of(n as usize, value);
-        self.store_at(la, bytes.as_slice())
+        self.store_at(la, bytes.as_slice(), data_kind(true))
+    }
+
+    /// Reads `n` bytes of a descriptor table or of the TSS at a linear address, the lowest first: without a
+    /// segment check, and as a system access, whatever the CPL. Outside long mode the address is cut to 32
+    /// bits.
+    #[tactic(auto, using(crate::proofs::Calls::system_rules))]
+    pub fn load_sys(&mut self, la: u64, n: u32) -> Result<u128, Stop>
+        requires open { IsOpen B.sight self.old }
+        requires size { is_size n ≡ true }
+        requires accesses { most n ≤ accesses_left self.old }
+        requires bytes { 10 ≤ bytes_left self.old }
+        ensures same { SameHandles self.old self.new }
+        ensures open { IsOpen B.sight self.new }
+        ensures accesses { accesses_left self.old ≤ accesses_left self.new + most n }
+        ensures bytes { bytes_left self.old ≤ bytes_left self.new + 10 }
+        ensures fits { IfOk result (λ v. v < 2 ^ (8 * n)) }
+        ensures part { Is (load_sys la n) (view B.sight I.hits self.old) result (view B.sight I.hits self.new) }
+    {
+        let at = self.system_address(la);
+        let bytes = self.load_at(at, n as usize, system_kind(false))?;
+        Ok(number_of(bytes.as_slice()))
+    }
+
+    /// Writes the `n` bytes of a number there, as [`Ctx::store`] does.
+    #[tactic(auto, using(crate::proofs::Calls::system_rules))]
+    pub fn store_sys(&mut self, la: u64, n: u32, value: u128) -> Result<(), Stop>
+        requires open { IsOpen B.sight self.old }
+        requires size { is_size n ≡ true }
+        requires fits { value < 2 ^ (8 * n) }
+        requires accesses { most n ≤ accesses_left self.old }
+        requires bytes { 10 + n ≤ bytes_left self.old }
+        ensures same { SameHandles self.old self.new }
+        ensures open { IsOpen B.sight self.new }
+        ensures accesses { accesses_left self.old ≤ accesses_left self.new + most n }
+        ensures bytes { bytes_left self.old ≤ bytes_left self.new + (10 + n) }
+        ensures part { Is (store_sys la n value) (view B.sight I.hits self.old) result (view B.sight I.hits self.new) }
+    {
+        let at = self.system_address(la);
+        let bytes = bytes_of(n as usize, value);
+        self.store_at(at, bytes.as_slice(), system_kind(true))
+    }
+
+    /// The address of a system access, which has 64 bits in long mode and 32 elsewhere.
+    fn system_address(&self, la: u64) -> u64
+        ensures { result ≡ la % 2 ^ system_bits (cpu_of self.now) }
+    {
+        if self.m.cpu().lma() {
+            return la;
+        }
+        la % (1 << 32)
     }
 
     /// The linear address of an operand, or the exception that it raises.
@@ -107,33 +158,41 @@ impl<'a, B: Bus, I: Intercepts> Ctx<'a, B, I> {
         ensures open { IsOpen B.sight self.new }
         ensures accesses { accesses_left self.new ≡ accesses_left self.old }
         ensures bytes { bytes_left self.new ≡ bytes_left self.old }
-        ensures below { IfOk result (λ la. la < 2 ^ 32) }
         ensures part { Does (locate seg offset n write) (view B.sight I.hits self.old) result (view B.sight I.hits self.new) }
     {
-        match self.m.linear(seg, offset, n, write) {
+        match check_access(self.m.cpu(), seg, offset, n, write) {
             Ok(la) => Ok(la),
             Err(fault) => Err(Stop::Fault(fault)),
         }
     }
 
+    /// Whether the linear addresses of an access have 64 bits, and not 32.
+    fn is_wide(&self, kind: Kind) -> bool
+        ensures { result ≡ is_wide (cpu_of self.now) kind }
+    {
+        if kind.system {
+            self.m.cpu().lma()
+        } else {
+            self.m.cpu().is_long()
+        }
+    }
+
     /// The linear address behind the end of the page.
-    fn next_page(&self, la: u64) -> u64
-        ensures value { result ≡ next_page (address_bits (cpu_of self.now)) la }
+    fn next_page(&self, la: u64, kind: Kind) -> u64
+        ensures value { result ≡ next_page (bits_of (cpu_of self.now) kind) la }
         ensures aligned { result % 4096 ≡ 0 }
-        ensures below { result < 2 ^ 32 }
     {
         let next = la.wrapping_add(4096 - la % 4096);
-        if self.m.cpu().is_long() {
+        if self.is_wide(kind) {
             return next;
         }
         next % (1 << 32)
     }
 
-    /// The physical address of a linear one, to be written or read.
+    /// The physical address of a linear one.
     #[tactic(auto, using(crate::proofs::Binds::part_rules), unfolding(crate::specs::Memory::place))]
-    fn place(&mut self, la: u64, write: bool) -> Result<u64, Stop>
+    fn place(&mut self, la: u64, kind: Kind) -> Result<u64, Stop>
         requires open { IsOpen B.sight self.old }
-        requires fits { la < 2 ^ 32 }
         requires bytes { 5 ≤ bytes_left self.old }
         ensures same { SameHandles self.old self.new }
         ensures open { IsOpen B.sight self.new }
@@ -141,10 +200,10 @@ impl<'a, B: Bus, I: Intercepts> Ctx<'a, B, I> {
         ensures bytes { bytes_left self.old ≤ bytes_left self.new + 5 }
         ensures page { IfOk result (λ pa. pa % 4096 ≡ la % 4096) }
         ensures below { IfOk result (λ pa. pa < 2 ^ 40) }
-        ensures part { Does (place write la) (view B.sight I.hits self.old) result (view B.sight I.hits self.new) }
+        ensures part { Does (place kind la) (view B.sight I.hits self.old) result (view B.sight I.hits self.new) }
     {
-        let _ = write;
-        Ok(la)
+        let _ = kind;
+        Ok(la % (1 << 40))
     }
 
     /// One access to a device: the kept answer, where the record has one at this place, else the bus is
@@ -305,11 +364,10 @@ impl<'a, B: Bus, I: Intercepts> Ctx<'a, B, I> {
 
     /// All pieces are translated before any byte is read.
     #[tactic(auto, using(crate::proofs::Pieces::load_rules))]
-    fn load_at(&mut self, la: u64, n: usize, write: bool) -> Result<ArrayVec<u8, 16>, Stop>
+    fn load_at(&mut self, la: u64, n: usize, kind: Kind) -> Result<ArrayVec<u8, 16>, Stop>
         requires open { IsOpen B.sight self.old }
         requires size { is_size n ≡ true }
         requires small { n ≤ 16 }
-        requires fits { la < 2 ^ 32 }
         requires accesses { most n ≤ accesses_left self.old }
         requires bytes { 10 ≤ bytes_left self.old }
         ensures same { SameHandles self.old self.new }
@@ -317,16 +375,16 @@ impl<'a, B: Bus, I: Intercepts> Ctx<'a, B, I> {
         ensures accesses { accesses_left self.old ≤ accesses_left self.new + most n }
         ensures bytes { bytes_left self.old ≤ bytes_left self.new + 10 }
         ensures size { IfOk result (λ bytes. length bytes.items ≡ n) }
-        ensures part { Does (load_at write la n) (view B.sight I.hits self.old) (bytes_in result) (view B.sight I.hits self.new) }
+        ensures part { Does (load_at kind la n) (view B.sight I.hits self.old) (bytes_in result) (view B.sight I.hits self.new) }
     {
         let room = 4096 - (la % 4096) as usize;
         if n <= room {
-            let pa = self.place(la, write)?;
+            let pa = self.place(la, kind)?;
             return self.read_piece(pa, n);
         }
-        let next = self.next_page(la);
-        let first = self.place(la, write)?;
-        let second = self.place(next, write)?;
+        let next = self.next_page(la, kind);
+        let first = self.place(la, kind)?;
+        let second = self.place(next, kind)?;
         let mut bytes = self.read_piece(first, room)?;
         let rest = self.read_piece(second, n - room)?;
         append(&mut bytes, rest.as_slice());
@@ -338,7 +396,6 @@ impl<'a, B: Bus, I: Intercepts> Ctx<'a, B, I> {
     fn probe_at(&mut self, la: u64, n: usize) -> Result<(), Stop>
         requires open { IsOpen B.sight self.old }
         requires small { n ≤ 16 }
-        requires fits { la < 2 ^ 32 }
         requires bytes { 10 ≤ bytes_left self.old }
         ensures same { SameHandles self.old self.new }
         ensures open { IsOpen B.sight self.new }
@@ -347,10 +404,11 @@ impl<'a, B: Bus, I: Intercepts> Ctx<'a, B, I> {
         ensures part { Does (probe_at la n) (view B.sight I.hits self.old) result (view B.sight I.hits self.new) }
     {
         let room = 4096 - (la % 4096) as usize;
-        let next = self.next_page(la);
-        self.place(la, true)?;
+        let kind = data_kind(true);
+        let next = self.next_page(la, kind);
+        self.place(la, kind)?;
         if n > room {
-            self.place(next, true)?;
+            self.place(next, kind)?;
         }
         Ok(())
     }
@@ -377,29 +435,50 @@ impl<'a, B: Bus, I: Intercepts> Ctx<'a, B, I> {
 
     /// All pieces are translated before any byte is written.
     #[tactic(auto, using(crate::proofs::Stores::store_rules))]
-    fn store_at(&mut self, la: u64, bytes: &[u8]) -> Result<(), Stop>
+    fn store_at(&mut self, la: u64, bytes: &[u8], kind: Kind) -> Result<(), Stop>
         requires open { IsOpen B.sight self.old }
         requires size { is_size (length bytes.now) ≡ true }
         requires small { length bytes.now ≤ 16 }
-        requires fits { la < 2 ^ 32 }
         requires accesses { most (length bytes.now) ≤ accesses_left self.old }
         requires bytes { 10 + length bytes.now ≤ bytes_left self.old }
         ensures same { SameHandles self.old self.new }
         ensures open { IsOpen B.sight self.new }
         ensures accesses { accesses_left self.old ≤ accesses_left self.new + most (length bytes.now) }
         ensures bytes { bytes_left self.old ≤ bytes_left self.new + (10 + length bytes.now) }
-        ensures part { Does (store_at la bytes.now) (view B.sight I.hits self.old) result (view B.sight I.hits self.new) }
+        ensures part { Does (store_at kind la bytes.now) (view B.sight I.hits self.old) result (view B.sight I.hits self.new) }
     {
         let room = 4096 - (la % 4096) as usize;
         if bytes.len() <= room {
-            let pa = self.place(la, true)?;
+            let pa = self.place(la, kind)?;
             return self.write_piece(pa, bytes);
         }
-        let next = self.next_page(la);
-        let first = self.place(la, true)?;
-        let second = self.place(next, true)?;
+        let next = self.next_page(la, kind);
+        let first = self.place(la, kind)?;
+        let second = self.place(next, kind)?;
         self.write_piece(first, &bytes[..room])?;
         self.write_piece(second, &bytes[room..])
+    }
+}
+
+/// An access to data, through a segment.
+fn data_kind(write: bool) -> Kind
+    ensures { result ≡ data_kind write }
+{
+    Kind {
+        write,
+        fetch: false,
+        system: false,
+    }
+}
+
+/// An access of the processor's own to a descriptor table or the TSS.
+fn system_kind(write: bool) -> Kind
+    ensures { result ≡ system_kind write }
+{
+    Kind {
+        write,
+        fetch: false,
+        system: true,
     }
 }
 

@@ -165,7 +165,7 @@ pub fn read_for_write<B: Bus, I: Intercepts>(
 }
 
 /// The low bytes of a number.
-fn cut(value: u64, size: u8) -> u128
+pub fn cut(value: u64, size: u8) -> u128
     requires { IsTrue (is_size size) }
     ensures { result ≡ value % 2 ^ (8 * size) }
 {

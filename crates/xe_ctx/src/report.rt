@@ -43,8 +43,6 @@ pub enum Outcome {
         kept: Access,
         wanted: Option<Access>,
     },
-    /// The instruction isn't built.
-    Unbuilt(Option<Row>),
 }
 
 /// What one call did. It can be used again from call to call, so that none makes one anew.

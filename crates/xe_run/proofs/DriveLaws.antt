@@ -29,7 +29,7 @@ use Rattle.xe_scene.specs.declared.command.Command.{Command}
 use Rattle.xe_run.specs.Text.{text, line_of}
 use Rattle.xe_run.specs.Drive.{World, Did, obeyed, drive_from, run_command, call_command, call_event, call_events, end_event, single_call, after_call, abandoned, show_command, dump_command, memory_shown, shown, installed, poke_command, poked, turns, redrafted, start, drive}
 use Rattle.xe_run.specs.declared.event.Event.TheVariants as events
-use Rattle.xe_ctx.specs.Call as calls
+use Rattle.xe_core.specs.Call as calls
 use Rattle.xe_ctx.specs.Tape.{Tape}
 use Rattle.xe_ctx.specs.declared.report.Report.{Report}
 use Rattle.xe_run.proofs.TurnLaws.{call-shows}

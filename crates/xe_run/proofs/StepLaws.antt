@@ -5,9 +5,9 @@ use Rattle.xe_base.specs.declared.access.Access.{Access}
 use Rattle.xe_base.specs.declared.access.Answer.{Answer}
 use Rattle.xe_base.specs.declared.access.Made.{Made}
 use Rattle.xe_opmap.specs.declared.row.Row.{Row}
-use Rattle.xe_ctx.specs.Call.{StandsEach, standing}
+use Rattle.xe_core.specs.Call.{StandsEach, standing}
 use Rattle.xe_ctx.specs.State.{State}
-use Rattle.xe_ctx.specs.Step.{Stepped, Ends, Wants, Ended, Wanted}
+use Rattle.xe_core.specs.Step.{Stepped, Ends, Wants, Ended, Wanted}
 use Rattle.xe_ctx.specs.Supply.{Supply, Taken, Got, Lacks, Lack, Unanswered, Unready, Failing, Supplies, answers, answers_alone, from_tape, next_answer, replied}
 use Rattle.xe_ctx.specs.Tape.{Tape, ask}
 use Rattle.xe_ctx.specs.declared.bus.Reply.{Reply}

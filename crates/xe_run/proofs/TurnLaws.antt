@@ -6,11 +6,11 @@ use Rattle.xe_base.specs.declared.access.Access.{Access}
 use Rattle.xe_base.specs.declared.access.Made.{Made}
 use Rattle.xe_base.specs.declared.cpu.Cpu.{Cpu}
 use Rattle.xe_opmap.specs.declared.row.Row.{Row}
-use Rattle.xe_ctx.specs.Call.{Call, Tells, Stands, StandsEach, Played, LeftBy, FollowsTape, Fits, divergence, called, lacking, waiting, standing, one_call}
-use Rattle.xe_ctx.specs.Call as calls
+use Rattle.xe_core.specs.Call.{Call, Tells, Stands, StandsEach, Played, LeftBy, FollowsTape, Fits, divergence, called, lacking, waiting, standing, one_call}
+use Rattle.xe_core.specs.Call as calls
 use Rattle.xe_ctx.specs.Kept.{Kept, nothing}
 use Rattle.xe_ctx.specs.State.{State}
-use Rattle.xe_ctx.specs.Step.{Stepped, Ends, Wants, Ended, is_diverged}
+use Rattle.xe_core.specs.Step.{Stepped, Ends, Wants, Ended, is_diverged}
 use Rattle.xe_ctx.specs.Supply.{Supply, Supplies, Lack, Lacks, Unanswered, Unready, Failing, answers, answers_alone, from_tape, next_answer}
 use Rattle.xe_ctx.specs.Tape.{Tape, ask, begun}
 use Rattle.xe_ctx.specs.declared.bus.Reply.TheVariants.{NotYet, Failed}

@@ -18,7 +18,7 @@ use Rattle.xe_ctx.specs.State.{State}
 use Rattle.xe_ctx.specs.Machine.{first_hole}
 use Rattle.xe_ctx.specs.Tape.{Tape, empty_tape, begun}
 use Rattle.xe_ctx.specs.Kept.{Kept, nothing}
-use Rattle.xe_ctx.specs.Call.{Call, one_call}
+use Rattle.xe_core.specs.Call.{Call, one_call}
 use Rattle.xe_ctx.specs.declared.report.Outcome.{Outcome}
 use Rattle.xe_ctx.specs.declared.report.Outcome.TheVariants as ends
 use Rattle.xe_core.specs.Emulate.{step_of}

@@ -6,7 +6,7 @@ use Rattle.xe_base.specs.declared.access.Answer.{Answer}
 use Rattle.xe_base.specs.declared.access.Made.{Made}
 use Rattle.xe_opmap.specs.declared.row.Row.{Row}
 use Rattle.xe_ctx.specs.State.{State}
-use Rattle.xe_ctx.specs.Step.{Stepped, Ends, Wants, Ended, Wanted, is_done}
+use Rattle.xe_core.specs.Step.{Stepped, Ends, Wants, Ended, Wanted, is_done}
 use Rattle.xe_ctx.specs.Supply.{Supply, answers_alone}
 use Rattle.xe_ctx.specs.Tape.{Tape}
 use Rattle.xe_ctx.specs.declared.report.Outcome.{Outcome}

@@ -2,7 +2,7 @@
 ghost use Rattle.std.specs.Prelude.{◌≡◌, ◌≤◌, ◌<◌, ◌+◌, ℕ, List, All, IfOk, OnOk, OnErr, Some, length};
 ghost use Rattle.xe_base.specs.State.{Valid};
 ghost use Rattle.xe_mem.specs.Layout.{IsLayout, zeroed};
-ghost use Rattle.xe_ctx.specs.Call as calls;
+ghost use Rattle.xe_core.specs.Call as calls;
 ghost use Rattle.xe_ctx.specs.Kept.{nothing};
 ghost use Rattle.xe_ctx.specs.Machine.{state_of};
 ghost use Rattle.xe_ctx.specs.Recorded.{kept_of};

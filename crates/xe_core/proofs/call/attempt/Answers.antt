@@ -1,7 +1,7 @@
 use Rattle.std.proofs.Common.{◌∙◌, sym, ap, subst}
 use Rattle.xe_base.specs.State.{Valid}
 use Rattle.xe_ctx.specs.State.{State}
-use Rattle.xe_ctx.specs.Step.{tf}
+use Rattle.xe_core.specs.Step.{tf}
 use Rattle.xe_core.proofs.CallLaws.{tried_none, came_unbuilt, came_finish, came_stop, came_sound}
 use Rattle.xe_core.proofs.call.attempt.Goals as goal
 

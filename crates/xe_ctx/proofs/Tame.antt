@@ -13,7 +13,7 @@ use Rattle.xe_ctx.specs.declared.operand.Operand.{Operand}
 use Rattle.xe_ctx.specs.declared.operand.Operand.TheVariants.{Register, Memory}
 use Rattle.xe_ctx.specs.declared.stop.Finish.{Finish}
 use Rattle.xe_ctx.proofs.FinishLaws.{each_any, each_then}
-use Rattle.xe_arith.specs.Plain.{EndsPlainly}
+use Rattle.xe_ctx.specs.Plain.{EndsPlainly}
 
 -- the registers differ in the general ones at most, and in the flags that an instruction may change
 pub record Tame (old new : Cpu) : Type 0 where
@@ -30,7 +30,7 @@ pub tame_if : (old a b : Cpu) (c : Bool) → Tame old a → Tame old b → Tame 
 tame_if old a b true s t = s
 tame_if old a b false s t = t
 
-tame_gpr : (old new : Cpu) (registers : List ℕ) → Tame old new → Tame old (record new { gpr = registers })
+pub tame_gpr : (old new : Cpu) (registers : List ℕ) → Tame old new → Tame old (record new { gpr = registers })
 tame_gpr old new registers t = record { rest = ap (λ (c : Cpu). record c { gpr = registers }) t.rest; flags = t.flags }
 
 -- a general register is written
@@ -50,7 +50,7 @@ tame_operand insn old cpu (Memory seg offset) n value t = each_then (Tame old) (
 -- ---- the end of an instruction
 
 -- outside 64-bit code the next instruction begins below 2 ^ 32
-pointer_in : (long db : Bool) (rip len : ℕ) → long ≡ false → rip_after (if long then B64 else (if db then B32 else B16)) rip len < 2 ^ 32
+pub pointer_in : (long db : Bool) (rip len : ℕ) → long ≡ false → rip_after (if long then B64 else (if db then B32 else B16)) rip len < 2 ^ 32
 pointer_in true db rip len h = cc
 pointer_in false true rip len h = omega arith
 pointer_in false false rip len h = omega arith

@@ -8,18 +8,18 @@ use Rattle.xe_opmap.specs.declared.row.Row.{Row}
 use Rattle.std.proofs.lemmas.List.Elements.{All-nil}
 use Rattle.xe_base.specs.Access.{IsWellMade}
 use Rattle.xe_ctx.specs.Bus.{BusView}
-use Rattle.xe_ctx.specs.Call.{Call, Divergence, differs, diverges, divergence, diverges_from, standing, StandsEach, called, diverged, resumed, one_call, reported, lacking, Tells, FollowsTape, Counted, Reports, StandsThere, StandsThereAt, ComesTo, is_plain, why_by, Tried, Stands, LeftBy, Played, judged, told_by, left_by, state_by}
+use Rattle.xe_core.specs.Call.{Call, Divergence, differs, diverges, divergence, diverges_from, standing, StandsEach, called, diverged, resumed, one_call, reported, lacking, Tells, FollowsTape, Counted, Reports, StandsThere, StandsThereAt, ComesTo, is_plain, why_by, Tried, Stands, LeftBy, Played, judged, told_by, left_by, state_by}
 use Rattle.xe_ctx.specs.Is.{Sight, Moves, Plays, Leaves, Stood, StandsAt, fresh, supply_of}
 use Rattle.xe_ctx.specs.Part.{View}
 use Rattle.xe_ctx.specs.Kept.{Kept, nothing, expected, expected_from, Agrees, IsKept, same_access}
 use Rattle.xe_ctx.specs.State.{State}
-use Rattle.xe_ctx.specs.Step.{Stepped, Ended, Ends, Wants, is_done, is_diverged}
+use Rattle.xe_core.specs.Step.{Stepped, Ended, Ends, Wants, is_done, is_diverged}
 use Rattle.xe_ctx.specs.Supply.{Supply, Supplies, Lacks, Unanswered, Unready, Failing, answers_alone, answers, from_tape, next_answer}
 use Rattle.xe_ctx.specs.Tape.{Tape, Key}
 use Rattle.xe_ctx.specs.declared.report.Outcome.{Outcome}
 use Rattle.xe_ctx.specs.declared.report.Outcome.TheVariants as outcomes
 use Rattle.xe_ctx.specs.declared.report.Report.{Report}
-use Rattle.xe_ctx.proofs.Replays.{same_refl, diverges-none, diverges-last, diverges-asked, agrees-front}
+use Rattle.xe_core.proofs.Replays.{same_refl, diverges-none, diverges-last, diverges-asked, agrees-front}
 
 -- From a step that was tried to what its call reports.
 

@@ -83,13 +83,12 @@ concluded s row (Ended_by e v rest) = Ends (record { row = Some row; outcome = o
 abbrev pub undefined_opcode : Ending
 undefined_opcode = Raises (plain_exception invalid_opcode)
 
--- what the instructions of a table ask for in a state of the registers; none where the instruction, or its form, isn't built there
+-- what each instruction asks for, in a state of the registers
 abbrev pub Table : Type 0
-Table = Insn → Cpu → Option (Tree Finish)
+Table = Insn → Cpu → Tree Finish
 
-abbrev pub executed : Option (Tree Finish) → Insn → State → (Point → Option Exit) → Supply → Stepped
-executed (Some tree) insn s hits supply = concluded s insn.row (run tree (accepted insn.len (begins s hits)) supply)
-executed None insn s hits supply = early s (Some insn.row) (outcomes.Unbuilt (Some insn.row)) supply
+abbrev pub executed : Tree Finish → Insn → State → (Point → Option Exit) → Supply → Stepped
+executed tree insn s hits supply = concluded s insn.row (run tree (accepted insn.len (begins s hits)) supply)
 
 -- what follows the decoding; where the bytes end too early, the reason why the next can't be had decides
 abbrev pub stepped : Table → State → (Point → Option Exit) → Supply → Ending → Decoded → Stepped

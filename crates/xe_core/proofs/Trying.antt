@@ -6,13 +6,13 @@ use Rattle.xe_base.specs.declared.access.Access.{Access}
 use Rattle.xe_base.specs.declared.access.Made.{Made}
 use Rattle.xe_opmap.specs.declared.row.Row.{Row}
 use Rattle.xe_ctx.specs.Bus.{BusView}
-use Rattle.xe_ctx.specs.Call.{standing, StandsEach, ComesTo, is_plain, why_by, Tried}
+use Rattle.xe_core.specs.Call.{standing, StandsEach, ComesTo, is_plain, why_by, Tried}
 use Rattle.xe_ctx.specs.Is.{Sight, Moves, Plays, Leaves, Stood, Comes, WaitsForOne, AsksEach, IsAt, Equals, Is, is, does, why_of, fresh, supply_of}
 use Rattle.xe_ctx.specs.Kept.{Kept}
 use Rattle.xe_ctx.specs.Part.{View, Ran, Waits}
 use Rattle.xe_ctx.specs.Run.{run}
 use Rattle.xe_ctx.specs.State.{State}
-use Rattle.xe_ctx.specs.Step.{Stepped, Ends, Wants, concluded, early, outcome_of, retired}
+use Rattle.xe_core.specs.Step.{Stepped, Ends, Wants, concluded, early, outcome_of, retired}
 use Rattle.xe_ctx.specs.Supply.{Supply, Supplies, Lack, Lacks, Unanswered, answers_alone, answers, next_answer}
 use Rattle.xe_ctx.specs.Tape.{Tape}
 use Rattle.xe_ctx.specs.Tree.{Tree}
@@ -21,7 +21,7 @@ use Rattle.xe_ctx.specs.declared.report.Outcome.TheVariants as outcomes
 use Rattle.xe_ctx.specs.declared.stop.Finish.{Finish}
 use Rattle.xe_ctx.specs.declared.stop.Stop.{Stop}
 use Rattle.xe_ctx.specs.declared.stop.Stop.TheVariants as stops
-use Rattle.xe_ctx.proofs.Reporting.{supplied, comes-ended, plain-leaves, plain-stood}
+use Rattle.xe_core.proofs.Reporting.{supplied, comes-ended, plain-leaves, plain-stood}
 
 -- From what the code did of an instruction to a step that was tried.
 

@@ -5,12 +5,12 @@ use Rattle.xe_base.specs.Registers.{next_rip}
 use Rattle.xe_base.specs.declared.cpu.Cpu.{Cpu}
 
 -- a rule that stays
-keep : (b : Bool) (n : ℕ) (x y : Option ℕ) → (x ≡ None → y ≡ None) → (if not b then Some n else x) ≡ None → (if not b then Some n else y) ≡ None
+pub keep : (b : Bool) (n : ℕ) (x y : Option ℕ) → (x ≡ None → y ≡ None) → (if not b then Some n else x) ≡ None → (if not b then Some n else y) ≡ None
 keep true n x y f h = f h
 keep false n x y f h = cc
 
 -- a rule that holds now
-replace : (b c : Bool) (n : ℕ) (x : Option ℕ) → c ≡ true → (if not b then Some n else x) ≡ None → (if not c then Some n else x) ≡ None
+pub replace : (b c : Bool) (n : ℕ) (x : Option ℕ) → c ≡ true → (if not b then Some n else x) ≡ None → (if not c then Some n else x) ≡ None
 replace true c n x t h = rw t h
 replace false c n x t h = cc
 
@@ -20,7 +20,7 @@ unfolding broken
 valid_moved cpu gpr rip p h =
     keep _ 1 _ _ (keep _ 2 _ _ (keep _ 3 _ _ (keep _ 4 _ _ (keep _ 5 _ _ (keep _ 6 _ _ (keep _ 7 _ _ (keep _ 8 _ _ (replace _ _ 9 _ p)))))))) h
 
-below-32 : (x : ℕ) → nat_lt (x % 2 ^ 32) (2 ^ 32) ≡ true
+pub below-32 : (x : ℕ) → nat_lt (x % 2 ^ 32) (2 ^ 32) ≡ true
 below-32 x = grind (arith, nat_tests)
 
 fits : (long wide : Bool) (cpu : Cpu) (gpr : List ℕ) (len : ℕ) → lma cpu && seg_l cpu.cs ≡ long → seg_db cpu.cs ≡ wide → pointer_is_valid (record cpu { gpr = gpr; rip = next_rip cpu len }) ≡ true

@@ -5,8 +5,8 @@ use Rattle.xe_base.specs.declared.access.Access.{Access}
 use Rattle.xe_base.specs.declared.access.Made.{Made}
 use Rattle.xe_opmap.specs.declared.row.Row.{Row}
 use Rattle.xe_ctx.specs.Kept.{Agrees, expected_from, same_access}
-use Rattle.xe_ctx.specs.Call.{Divergence, differs, diverges, standing, StandsEach}
-use Rattle.xe_ctx.specs.Step.{Stepped}
+use Rattle.xe_core.specs.Call.{Divergence, differs, diverges, standing, StandsEach}
+use Rattle.xe_core.specs.Step.{Stepped}
 use Rattle.xe_ctx.specs.Supply.{Supply, answers_alone, answers}
 use Rattle.xe_ctx.specs.Tape.{same_bool}
 

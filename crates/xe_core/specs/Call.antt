@@ -7,7 +7,7 @@ use Rattle.xe_ctx.specs.Bus.{BusView, Rose}
 use Rattle.xe_ctx.specs.Is.{Sight, Moves}
 use Rattle.xe_ctx.specs.Kept.{Kept, nothing, same_access}
 use Rattle.xe_ctx.specs.State.{State}
-use Rattle.xe_ctx.specs.Step.{Ended, Wanted, Stepped, Ends, Wants, outcome_of, is_done, is_diverged}
+use Rattle.xe_core.specs.Step.{Ended, Wanted, Stepped, Ends, Wants, outcome_of, is_done, is_diverged}
 use Rattle.xe_ctx.specs.Supply.{Supply, Supplies, Lack, Lacks, Unanswered, Unready, Failing, answers_alone, answers, from_tape, next_answer}
 use Rattle.xe_ctx.specs.Tape.{Tape, Key}
 use Rattle.xe_ctx.specs.declared.report.Outcome.{Outcome}
