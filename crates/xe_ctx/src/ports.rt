@@ -29,11 +29,11 @@ fn has_bitmap(tr: &Seg) -> bool
 }
 
 /// Whether none of the bits of an access is set, from that of its port on.
-fn are_clear(bits: u64, port: u16, size: u8) -> bool
-    requires { size ≤ 4 }
-    ensures { result ≡ are_clear bits port size }
+fn are_clear(bits: u64, port: u16, n: u32) -> bool
+    requires { n ≤ 4 }
+    ensures { result ≡ are_clear bits port n }
 {
-    let mask = match size {
+    let mask = match n {
         0 => 1,
         1 => 2,
         2 => 4,
@@ -55,10 +55,10 @@ fn tss_word<B: Bus, I: Intercepts>(ctx: &mut Ctx<B, I>, at: u64) -> Result<u64, 
 
 /// The bit map is asked.
 #[tactic(auto, using(crate::proofs::Trees::row_rules), unfolding(crate::specs::Ports::by_bitmap))]
-fn by_bitmap<B: Bus, I: Intercepts>(ctx: &mut Ctx<B, I>, port: u16, size: u8) -> Result<(), Stop>
+fn by_bitmap<B: Bus, I: Intercepts>(ctx: &mut Ctx<B, I>, port: u16, n: u32) -> Result<(), Stop>
     requires ready { HasLeft B.sight ctx.old 4 20 }
-    requires size { size ≤ 4 }
-    ensures { RunsWithin B.sight I.hits (by_bitmap (cpu_of ctx.old) port size) ctx.old result ctx.new 4 20 }
+    requires size { n ≤ 4 }
+    ensures { RunsWithin B.sight I.hits (by_bitmap (cpu_of ctx.old) port n) ctx.old result ctx.new 4 20 }
 {
     let has_one = has_bitmap(&ctx.cpu().tr);
     or_protection(ctx, has_one)?;
@@ -67,21 +67,21 @@ fn by_bitmap<B: Bus, I: Intercepts>(ctx: &mut Ctx<B, I>, port: u16, size: u8) ->
     let is_inside = at + 1 <= ctx.cpu().tr.limit as u64;
     or_protection(ctx, is_inside)?;
     let bits = tss_word(ctx, at)?;
-    or_protection(ctx, are_clear(bits, port, size))
+    or_protection(ctx, are_clear(bits, port, n))
 }
 
 impl<'a, B: Bus, I: Intercepts> Ctx<'a, B, I> {
-    /// Whether the program may use the ports of an access, `size` of them from this one on: in real mode
+    /// Whether the program may use the ports of an access, `n` of them from this one on: in real mode
     /// and up to IOPL always; else by the bit map of the TSS, of which it takes two system loads of two
     /// bytes. Where it may not, it is #GP(0).
     #[tactic(auto, using(crate::proofs::Trees::row_rules), unfolding(crate::specs::Ports::port_allowed))]
-    pub fn port_allowed(&mut self, port: u16, size: u8) -> Result<(), Stop>
+    pub fn port_allowed(&mut self, port: u16, n: u32) -> Result<(), Stop>
         requires ready { HasLeft B.sight self.old 4 20 }
-        requires size { size ≤ 4 }
-        ensures { RunsWithin B.sight I.hits (port_allowed (cpu_of self.old) port size) self.old result self.new 4 20 }
+        requires size { n ≤ 4 }
+        ensures { RunsWithin B.sight I.hits (port_allowed (cpu_of self.old) port n) self.old result self.new 4 20 }
     {
         if asks_bitmap(self.cpu()) {
-            by_bitmap(self, port, size)
+            by_bitmap(self, port, n)
         } else {
             Ok(())
         }
