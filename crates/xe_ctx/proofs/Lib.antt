@@ -13,6 +13,8 @@ pub mod MachineLaws
 pub mod FetchLaws
 pub mod Pieces
 pub mod Stores
+pub mod Walks
+pub mod Places
 pub mod Calls
 pub mod Locates
 pub mod Frames

@@ -10,10 +10,13 @@ use Rattle.xe_base.specs.declared.access.Space.TheVariants.{Mem}
 use Rattle.xe_base.specs.declared.cpu.Cpu.{Cpu}
 use Rattle.xe_base.specs.declared.segment.SegName.{SegName}
 use Rattle.xe_seg.specs.Accesses.{access}
+use Rattle.xe_walk.specs.Walk.{Reached, walk}
 use Rattle.xe_walk.specs.declared.rights.Kind.{Kind}
+use Rattle.xe_walk.specs.declared.walk.WalkStop.{WalkStop}
 use Rattle.xe_ctx.specs.Chunks.{chunks}
 use Rattle.xe_ctx.specs.Ending.{Raises}
 use Rattle.xe_ctx.specs.Part.{Part, ◌>>=◌, give, stop, look, change, ask, gather, each}
+use Rattle.xe_ctx.specs.Translate.{marked, walk_ending}
 use Rattle.xe_ctx.specs.declared.chunk.Chunk.{Chunk}
 
 -- Accesses to memory: the segment check, the cut at page ends, the translation of all pieces, and then the bytes, piece by piece from the lowest on.
@@ -105,9 +108,19 @@ IsInPage p = p.la % 4096 + p.n ≤ 4096
 abbrev pub IsPieceOf : ℕ → ℕ → Piece → Type 0
 IsPieceOf bits la p = p.la ≡ (la + p.at) % 2 ^ bits
 
--- the physical address of a linear one
+-- what follows a walk: the entries that it used are marked in the RAM as the step sees it; or the step ends
+abbrev pub landed : Kind → Result Reached WalkStop → Part ℕ
+landed kind (Ok r) = do
+  cpu ← look (λ v. v.start.cpu)
+  _ ← change (marked cpu kind r.used)
+  give r.pa
+landed kind (Err s) = stop (walk_ending s)
+
+-- the physical address of a linear one: the walk goes over the RAM as the step sees it, so over what the step has stored and marked before
 unfoldable pub place : Kind → ℕ → Part ℕ
-place kind la = give (la % 2 ^ 40)
+place kind la = do
+  found ← look (λ v. walk v.work v.start.cpu la kind)
+  landed kind found
 
 unfoldable pub place_piece : Kind → Piece → Part (List Place)
 place_piece kind p = do

@@ -1,5 +1,5 @@
-use Rattle.std.specs.Prelude.{ℕ, ◌+◌, List, [], ◌∷◌, Bool, true, false, if◌then◌else◌}
-use Rattle.xe_base.specs.Ram.{Area, set_bits}
+use Rattle.std.specs.Prelude.{ℕ, ◌+◌, ◌^◌, ◌≡◌, ◌≤◌, List, [], ◌∷◌, All, Bool, true, false, if◌then◌else◌}
+use Rattle.xe_base.specs.Ram.{Area, in_ram, set_bits}
 use Rattle.xe_base.specs.declared.cpu.Cpu.{Cpu}
 use Rattle.xe_walk.specs.Rights.{limiting}
 use Rattle.xe_walk.specs.declared.entry.Used.{Used}
@@ -37,3 +37,11 @@ marked cpu kind used ram = marks kind.write (limiting cpu used) ram
 abbrev pub walk_ending : WalkStop → Ending
 walk_ending (Page f) = Raises f
 walk_ending (EntryNotRam pa) = HandsOver (Entry pa)
+
+-- an entry whose lowest byte is RAM, as that of each entry is that a walk used
+pub record IsEntry (ram : List Area) (u : Used) : Type 0 where
+  pub here : in_ram ram u.pa ≡ true
+  pub low : u.pa ≤ 2 ^ 40
+
+abbrev pub AreEntries : List Area → List Used → Type 0
+AreEntries ram us = All (IsEntry ram) us

@@ -5,6 +5,7 @@
 pub mod bus;
 mod chunk;
 pub mod ctx;
+mod devices;
 pub mod laws;
 pub mod machine;
 mod memory;
@@ -16,6 +17,7 @@ pub mod record;
 pub mod report;
 pub mod stack;
 pub mod stop;
+mod translate;
 
 pub use bus::{Bus, Reply};
 pub use ctx::Ctx;

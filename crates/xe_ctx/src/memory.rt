@@ -1,23 +1,21 @@
-//! Accesses to memory: the segment check, the cut at page ends, and the bytes, from RAM or from
-//! devices.
+//! Accesses to memory: the segment check, the cut at page ends, the translation of all pieces, and then
+//! the bytes, from RAM or from devices.
 #![tactic(auto, using(crate::proofs::Binds::part_rules))]
 
-ghost use Rattle.std.specs.Prelude.{◌≡◌, ℕ, ◌+◌, ◌-◌, ◌*◌, ◌<◌, ◌≤◌, ◌^◌, ◌%◌, length, Result, Ok, Err, Some, IfOk, IsTrue, true};
-ghost use Rattle.xe_base.specs.Access.{IsWellFormed, answers_to};
+ghost use Rattle.std.specs.Prelude.{◌≡◌, ℕ, ◌+◌, ◌*◌, ◌<◌, ◌≤◌, ◌^◌, ◌%◌, length, IfOk, true};
 ghost use Rattle.xe_base.specs.Bytes.{num};
-ghost use Rattle.xe_ctx.specs.Chunks.{chunks, Within, IsChunkSize, is_size, most};
-ghost use Rattle.xe_ctx.specs.Is.{Does, Is, IsNext};
-ghost use Rattle.xe_ctx.specs.Memory.{data_kind, system_kind, system_bits, is_wide, bits_of, chunk_read, chunk_write, devices_read, devices_write, next_page, place, read_place, write_bytes, load_at, store_at, probe_at, locate};
-ghost use Rattle.xe_ctx.specs.Part.{ask};
+ghost use Rattle.xe_ctx.specs.Chunks.{chunks, is_size, most};
+ghost use Rattle.xe_ctx.specs.Is.{Does, Is};
+ghost use Rattle.xe_ctx.specs.Memory.{data_kind, system_kind, system_bits, is_wide, bits_of, next_page, read_place, write_bytes, load_at, store_at, probe_at, locate};
 ghost use Rattle.xe_ctx.specs.Tree.{load, load_for_write, probe, store, load_sys, store_sys};
 ghost use Rattle.xe_ctx.specs.View.{view, cpu_of, SameHandles, IsOpen, accesses_left, bytes_left, bytes_in};
 
-use crate::bus::{Bus, Reply};
-use crate::chunk::{Chunk, append, bytes_of, chunks_of, number_of};
+use crate::bus::Bus;
+use crate::chunk::{append, bytes_of, number_of};
 use crate::ctx::Ctx;
-use crate::stop::{Diverged, Stop};
+use crate::stop::Stop;
 use arrayvec::ArrayVec;
-use xe_base::{Access, Answer, Made, SegName, Space};
+use xe_base::SegName;
 use xe_icpt::Intercepts;
 use xe_seg::check_access;
 use xe_walk::Kind;
@@ -141,7 +139,8 @@ impl<'a, B: Bus, I: Intercepts> Ctx<'a, B, I> {
 
     /// The address of a system access, which has 64 bits in long mode and 32 elsewhere.
     fn system_address(&self, la: u64) -> u64
-        ensures { result ≡ la % 2 ^ system_bits (cpu_of self.now) }
+        ensures value { result ≡ la % 2 ^ system_bits (cpu_of self.now) }
+        ensures within { result < 2 ^ system_bits (cpu_of self.now) }
     {
         if self.m.cpu().lma() {
             return la;
@@ -158,6 +157,7 @@ impl<'a, B: Bus, I: Intercepts> Ctx<'a, B, I> {
         ensures open { IsOpen B.sight self.new }
         ensures accesses { accesses_left self.new ≡ accesses_left self.old }
         ensures bytes { bytes_left self.new ≡ bytes_left self.old }
+        ensures within { IfOk result (λ la. la < 2 ^ bits_of (cpu_of self.new) (data_kind write)) }
         ensures part { Does (locate seg offset n write) (view B.sight I.hits self.old) result (view B.sight I.hits self.new) }
     {
         match check_access(self.m.cpu(), seg, offset, n, write) {
@@ -181,165 +181,13 @@ impl<'a, B: Bus, I: Intercepts> Ctx<'a, B, I> {
     fn next_page(&self, la: u64, kind: Kind) -> u64
         ensures value { result ≡ next_page (bits_of (cpu_of self.now) kind) la }
         ensures aligned { result % 4096 ≡ 0 }
+        ensures within { result < 2 ^ bits_of (cpu_of self.now) kind }
     {
         let next = la.wrapping_add(4096 - la % 4096);
         if self.is_wide(kind) {
             return next;
         }
         next % (1 << 32)
-    }
-
-    /// The physical address of a linear one.
-    #[tactic(auto, using(crate::proofs::Binds::part_rules), unfolding(crate::specs::Memory::place))]
-    fn place(&mut self, la: u64, kind: Kind) -> Result<u64, Stop>
-        requires open { IsOpen B.sight self.old }
-        requires bytes { 5 ≤ bytes_left self.old }
-        ensures same { SameHandles self.old self.new }
-        ensures open { IsOpen B.sight self.new }
-        ensures accesses { accesses_left self.old ≤ accesses_left self.new }
-        ensures bytes { bytes_left self.old ≤ bytes_left self.new + 5 }
-        ensures page { IfOk result (λ pa. pa % 4096 ≡ la % 4096) }
-        ensures below { IfOk result (λ pa. pa < 2 ^ 40) }
-        ensures part { Does (place kind la) (view B.sight I.hits self.old) result (view B.sight I.hits self.new) }
-    {
-        let _ = kind;
-        Ok(la % (1 << 40))
-    }
-
-    /// One access to a device: the kept answer, where the record has one at this place, else the bus is
-    /// asked.
-    pub(crate) fn ask(&mut self, a: Access) -> Result<Answer, Stop>
-        requires open { IsOpen B.sight self.old }
-        requires well_formed { IsWellFormed a }
-        requires accesses { 1 ≤ accesses_left self.old }
-        ensures same { SameHandles self.old self.new }
-        ensures open { IsOpen B.sight self.new }
-        ensures accesses { accesses_left self.old ≤ accesses_left self.new + 1 }
-        ensures bytes { bytes_left self.new ≡ bytes_left self.old }
-        ensures fits { IfOk result (λ r. IsTrue (answers_to a r)) }
-        ensures part { Does (ask a) (view B.sight I.hits self.old) result (view B.sight I.hits self.new) }
-    {
-        let at = self.m.made().len();
-        if let Some(kept) = self.rec.differs_at(at, a) {
-            return Err(diverged(at, kept, a));
-        }
-        if let Some(kept) = self.rec.kept_at(at) {
-            self.m.note(kept);
-            return Ok(kept.answer);
-        }
-        self.ask_bus(a)
-    }
-
-    /// The bus is asked for one access, for which the record keeps no answer, and has no other in its place.
-    fn ask_bus(&mut self, a: Access) -> Result<Answer, Stop>
-        requires open { IsOpen B.sight self.old }
-        requires well_formed { IsWellFormed a }
-        requires accesses { 1 ≤ accesses_left self.old }
-        requires stands { IsNext a (view B.sight I.hits self.old) }
-        ensures same { SameHandles self.old self.new }
-        ensures open { IsOpen B.sight self.new }
-        ensures accesses { accesses_left self.old ≤ accesses_left self.new + 1 }
-        ensures bytes { bytes_left self.new ≡ bytes_left self.old }
-        ensures fits { IfOk result (λ r. IsTrue (answers_to a r)) }
-        ensures part { Does (ask a) (view B.sight I.hits self.old) result (view B.sight I.hits self.new) }
-    {
-        match self.bus.access(a) {
-            Reply::Ready(answer) => {
-                self.m.note(Made { access: a, answer });
-                Ok(answer)
-            }
-            Reply::NotYet => Err(Stop::Pending(a)),
-            Reply::Failed => Err(Stop::BusFault(a)),
-        }
-    }
-
-    /// One chunk is read.
-    #[tactic(auto, using(crate::proofs::Binds::part_rules, xe_base::proofs::Bytes::byte_rules), unfolding(crate::specs::Memory::chunk_read))]
-    fn read_chunk(&mut self, c: Chunk) -> Result<ArrayVec<u8, 16>, Stop>
-        requires open { IsOpen B.sight self.old }
-        requires accesses { 1 ≤ accesses_left self.old }
-        requires aligned { IsChunkSize c.size }
-        ensures same { SameHandles self.old self.new }
-        ensures open { IsOpen B.sight self.new }
-        ensures accesses { accesses_left self.old ≤ accesses_left self.new + 1 }
-        ensures bytes { bytes_left self.new ≡ bytes_left self.old }
-        ensures size { IfOk result (λ bytes. length bytes.items ≡ c.size) }
-        ensures part { Does (chunk_read c) (view B.sight I.hits self.old) (bytes_in result) (view B.sight I.hits self.new) }
-    {
-        let answer = self.ask(Access {
-            space: Space::Mem,
-            write: false,
-            address: c.pa,
-            size: c.size as u8,
-            value: 0,
-        })?;
-        Ok(bytes_of(c.size, answer.number() as u128))
-    }
-
-    /// Reads n bytes of devices, chunk by chunk.
-    #[tactic(auto, using(crate::proofs::Binds::part_rules, crate::proofs::Binds::loop_rules), unfolding(crate::specs::Memory::devices_read))]
-    fn read_devices(&mut self, pa: u64, n: usize) -> Result<ArrayVec<u8, 16>, Stop>
-        requires open { IsOpen B.sight self.old }
-        requires small { n ≤ 16 }
-        requires fits { pa < 2 ^ 52 }
-        requires accesses { length (chunks pa n) ≤ accesses_left self.old }
-        ensures same { SameHandles self.old self.new }
-        ensures open { IsOpen B.sight self.new }
-        ensures accesses { accesses_left self.old ≤ accesses_left self.new + length (chunks pa n) }
-        ensures bytes { bytes_left self.new ≡ bytes_left self.old }
-        ensures size { IfOk result (λ bytes. length bytes.items ≡ n) }
-        ensures part { Does (devices_read pa n) (view B.sight I.hits self.old) (bytes_in result) (view B.sight I.hits self.new) }
-    {
-        let chunks = chunks_of(pa, n);
-        let mut all = ArrayVec::new();
-        for c in chunks.as_slice() {
-            let bytes = self.read_chunk(*c)?;
-            append(&mut all, bytes.as_slice());
-        }
-        Ok(all)
-    }
-
-    /// One chunk is written, of the bytes of the access.
-    #[tactic(auto, using(crate::proofs::Binds::part_rules), unfolding(crate::specs::Memory::chunk_write))]
-    fn write_chunk(&mut self, c: Chunk, bytes: &[u8]) -> Result<(), Stop>
-        requires open { IsOpen B.sight self.old }
-        requires accesses { 1 ≤ accesses_left self.old }
-        requires within { Within (length bytes.now) c }
-        ensures same { SameHandles self.old self.new }
-        ensures open { IsOpen B.sight self.new }
-        ensures accesses { accesses_left self.old ≤ accesses_left self.new + 1 }
-        ensures bytes { bytes_left self.new ≡ bytes_left self.old }
-        ensures part { Does (chunk_write bytes.now c) (view B.sight I.hits self.old) result (view B.sight I.hits self.new) }
-    {
-        let value = number_of(&bytes[c.at..c.at + c.size]);
-        let _ = self.ask(Access {
-            space: Space::Mem,
-            write: true,
-            address: c.pa,
-            size: c.size as u8,
-            value: value as u64,
-        })?;
-        Ok(())
-    }
-
-    /// Writes bytes to devices, chunk by chunk.
-    #[tactic(auto, using(crate::proofs::Binds::part_rules, crate::proofs::Binds::loop_rules), unfolding(crate::specs::Memory::devices_write))]
-    fn write_devices(&mut self, pa: u64, bytes: &[u8]) -> Result<(), Stop>
-        requires open { IsOpen B.sight self.old }
-        requires small { length bytes.now ≤ 16 }
-        requires fits { pa < 2 ^ 52 }
-        requires accesses { length (chunks pa (length bytes.now)) ≤ accesses_left self.old }
-        ensures same { SameHandles self.old self.new }
-        ensures open { IsOpen B.sight self.new }
-        ensures accesses { accesses_left self.old ≤ accesses_left self.new + length (chunks pa (length bytes.now)) }
-        ensures bytes { bytes_left self.new ≡ bytes_left self.old }
-        ensures part { Does (devices_write pa bytes.now) (view B.sight I.hits self.old) result (view B.sight I.hits self.new) }
-    {
-        let chunks = chunks_of(pa, bytes.len());
-        for c in chunks.as_slice() {
-            self.write_chunk(*c, bytes)?;
-        }
-        Ok(())
     }
 
     /// A piece is read, of the RAM or of devices.
@@ -369,6 +217,7 @@ impl<'a, B: Bus, I: Intercepts> Ctx<'a, B, I> {
         requires size { is_size n ≡ true }
         requires small { n ≤ 16 }
         requires accesses { most n ≤ accesses_left self.old }
+        requires within { la < 2 ^ bits_of (cpu_of self.old) kind }
         requires bytes { 10 ≤ bytes_left self.old }
         ensures same { SameHandles self.old self.new }
         ensures open { IsOpen B.sight self.new }
@@ -396,6 +245,7 @@ impl<'a, B: Bus, I: Intercepts> Ctx<'a, B, I> {
     fn probe_at(&mut self, la: u64, n: usize) -> Result<(), Stop>
         requires open { IsOpen B.sight self.old }
         requires small { n ≤ 16 }
+        requires within { la < 2 ^ bits_of (cpu_of self.old) (data_kind true) }
         requires bytes { 10 ≤ bytes_left self.old }
         ensures same { SameHandles self.old self.new }
         ensures open { IsOpen B.sight self.new }
@@ -440,6 +290,7 @@ impl<'a, B: Bus, I: Intercepts> Ctx<'a, B, I> {
         requires size { is_size (length bytes.now) ≡ true }
         requires small { length bytes.now ≤ 16 }
         requires accesses { most (length bytes.now) ≤ accesses_left self.old }
+        requires within { la < 2 ^ bits_of (cpu_of self.old) kind }
         requires bytes { 10 + length bytes.now ≤ bytes_left self.old }
         ensures same { SameHandles self.old self.new }
         ensures open { IsOpen B.sight self.new }
@@ -480,16 +331,4 @@ fn system_kind(write: bool) -> Kind
         fetch: false,
         system: true,
     }
-}
-
-/// The record has another access at a place of the step.
-fn diverged(at: usize, kept: Access, wanted: Access) -> Stop
-    requires { at ≤ 255 }
-    ensures { result ≡ Stop.Diverged (record { at = at; kept = kept; wanted = Some wanted }) }
-{
-    Stop::Diverged(Diverged {
-        at: at as u16,
-        kept,
-        wanted: Some(wanted),
-    })
 }

@@ -151,6 +151,73 @@ fn stores_take_effect_with_the_commit(rt: HostRuntime) {
     assert!(rt; out == [0x11, 0x22]);
 }
 
+/// 32-bit paging with the directory at 1000 and one table at 2000. Page 3 is mapped, at 4000, page 5 is
+/// the table itself, page 4 is absent; the second table is outside RAM.
+fn paged_machine(alloc: Global) -> Option<Machine> {
+    let mut m = machine(alloc)?;
+    m.poke(0x1000, &[7, 0x20, 0, 0, 7, 0, 0x10, 0]).ok()?;
+    m.poke(0x200C, &[7, 0x40, 0, 0]).ok()?;
+    m.poke(0x2014, &[7, 0x20, 0, 0]).ok()?;
+    let mut cpu = Cpu::reset();
+    cpu.cr0 = 0x8000_0011;
+    cpu.cr3 = 0x1000;
+    cpu.ds.limit = 0xFFFF_FFFF;
+    m.set_cpu(cpu).ok()?;
+    Some(m)
+}
+
+/// The lowest bytes of the directory's first entry and of the table's entry for page 3.
+fn marks(m: &Machine) -> (u8, u8) {
+    let mut top = [0; 1];
+    let mut last = [0; 1];
+    let _ = m.peek(0x1000, &mut top);
+    let _ = m.peek(0x200C, &mut last);
+    (top[0], last[0])
+}
+
+#[test]
+fn marks_entries_with_the_commit(rt: HostRuntime) {
+    let mut m = paged_machine(rt.alloc()).expect(&rt, "memory");
+    let mut bus = always_ready();
+    let mut record = Record::new();
+    let mut ctx = Ctx::begin(&mut m, &NoHits, &mut bus, &mut record);
+    assert!(rt; ctx.load(SegName::Ds, 0x3000, 2) == Ok(0));
+    let cpu = *ctx.cpu();
+    if ctx.unused().is_none() {
+        ctx.commit(cpu);
+    }
+    assert!(rt; marks(&m) == (0x27, 0x27));
+
+    // The table maps itself: page 4 is there as soon as the step has written its entry.
+    let mut ctx = Ctx::begin(&mut m, &NoHits, &mut bus, &mut record);
+    assert!(rt; ctx.store(SegName::Ds, 0x5010, 4, 0x4007).is_ok());
+    assert!(rt; ctx.store(SegName::Ds, 0x4001, 1, 0x11).is_ok());
+    assert!(rt; ctx.load(SegName::Ds, 0x3000, 2) == Ok(0x1100));
+    assert!(rt; ctx.load(SegName::Ds, 0x5010, 1) == Ok(0x67));
+}
+
+#[test]
+fn changes_nothing_where_the_second_page_is_absent(rt: HostRuntime) {
+    let mut m = paged_machine(rt.alloc()).expect(&rt, "memory");
+    let mut bus = always_ready();
+    let mut record = Record::new();
+    let mut ctx = Ctx::begin(&mut m, &NoHits, &mut bus, &mut record);
+    let absent = Stop::Fault(Fault {
+        vector: 14,
+        code: Some(2),
+        cr2: Some(0x4000),
+    });
+    assert!(rt; ctx.store(SegName::Ds, 0x3FFE, 4, 0x4433_2211) == Err(absent));
+    ctx.end(&absent);
+    let mut out = [0; 2];
+    assert!(rt; m.peek(0x4FFE, &mut out).is_ok());
+    assert!(rt; out == [0, 0]);
+    assert!(rt; marks(&m) == (7, 7));
+    let mut ctx = Ctx::begin(&mut m, &NoHits, &mut bus, &mut record);
+    let outside = Err(Stop::Handoff(Handoff::Entry(0x10_0000)));
+    assert!(rt; ctx.load(SegName::Ds, 0x40_0000, 1) == outside);
+}
+
 #[test]
 fn hands_off_a_fetch_outside_ram(rt: HostRuntime) {
     let mut m = machine(rt.alloc()).expect(&rt, "memory");
