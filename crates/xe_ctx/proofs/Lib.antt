@@ -9,6 +9,7 @@ pub mod Opens
 pub mod Cut
 pub mod Work
 pub mod Holes
+pub mod MarkLaws
 pub mod MachineLaws
 pub mod FetchLaws
 pub mod Pieces

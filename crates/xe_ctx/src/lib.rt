@@ -7,6 +7,7 @@ mod chunk;
 pub mod ctx;
 pub mod laws;
 pub mod machine;
+mod marks;
 mod memory;
 pub mod operand;
 mod overlay;
