@@ -12,6 +12,8 @@ pub mod Holes
 pub mod MarkLaws
 pub mod MachineLaws
 pub mod FetchLaws
+pub mod RunLaws
+pub mod AcceptLaws
 pub mod Pieces
 pub mod Stores
 pub mod Calls

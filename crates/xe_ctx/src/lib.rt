@@ -5,6 +5,7 @@
 pub mod bus;
 mod chunk;
 pub mod ctx;
+mod fetch;
 pub mod laws;
 pub mod machine;
 mod marks;
