@@ -1,6 +1,6 @@
-use Rattle.std.proofs.Common.{ℕ, zero, suc, ◌≡◌, ◌<◌, ◌≤◌, ◌+◌, List, [], ◌∷◌, ◌++◌, length, take, drop, get_or, refl, sym, ap, ◌∙◌, arith, Result, Ok, Err, nat_lt, true, false, length-append}
+use Rattle.std.proofs.Common.{ℕ, zero, suc, ◌≡◌, ◌<◌, ◌≤◌, ◌+◌, List, [], ◌∷◌, ◌++◌, length, take, drop, get_or, refl, sym, ap, ◌∙◌, arith, Result, Ok, Err, nat_lt, true, false, length-append, append_assoc}
 use Rattle.std.proofs.lemmas.Bool.Decides.{nat_tests}
-use Rattle.std.proofs.lemmas.List.{take_more, take_all, length-take}
+use Rattle.std.proofs.lemmas.List.{take_more, take_all, length-take, append-nil}
 use Rattle.std.proofs.lemmas.Grind.{common_steps}
 use Rattle.xe_base.specs.Ram.{Area, byte_of, bytes_of}
 use Rattle.xe_base.proofs.Ram.{length-bytes}
@@ -76,35 +76,34 @@ ends_full s h = from-full s 15 0 h
 taken-fits : (xs code : List ℕ) → code ≡ take (length code) xs → length code ≤ length xs
 taken-fits xs code e = omega (arith, ap length e, length-take (length code) xs)
 
--- ---- the fast path: a run of bytes in RAM is the front of what can be had
+-- ---- a run of bytes in RAM goes on from those that were read
 
 bytes-more : (ram : List Area) (pa n : ℕ) → bytes_of ram pa (suc n) ≡ bytes_of ram pa n ++ byte_of ram (pa + n) ∷ []
 unfolding bytes_of
 bytes-more ram pa zero = let z : pa + 0 ≡ pa = omega arith in rw z refl
 bytes-more ram pa (suc n) = let z : pa + suc n ≡ pa + 1 + n = omega arith in rw z (ap (λ xs. byte_of ram pa ∷ xs) (bytes-more ram (pa + 1) n))
 
-bytes-none : (ram : List Area) (pa : ℕ) (xs : List ℕ) → bytes_of ram pa 0 ≡ take 0 xs
+bytes-none : (ram : List Area) (pa : ℕ) → bytes_of ram pa 0 ≡ []
 unfolding bytes_of
-bytes-none ram pa [] = refl
-bytes-none ram pa (x ∷ xs) = refl
+bytes-none ram pa = refl
 
 -- one byte more
-grown : (s : State) (code : List ℕ) (k b : ℕ) → k ≡ length code → k < 15 → code ≡ take (length code) (avail s).bytes → code_byte s k ≡ Ok b → code ++ b ∷ [] ≡ take (k + 1) (avail s).bytes
+grown : (s : State) (code : List ℕ) (k b : ℕ) → k ≡ length code → k < 15 → code ≡ take k (avail s).bytes → code_byte s k ≡ Ok b → code ++ b ∷ [] ≡ take (k + 1) (avail s).bytes
 grown s code k b n l is e =
-    let a = has_next s k b l (rw n (taken-fits _ _ is)) e in
-    let front : code ≡ take k (avail s).bytes = rw n is in
+    let front : code ≡ take (length code) (avail s).bytes = rw n at is in
+    let a = has_next s k b l (rw n (taken-fits _ _ front)) e in
     let byte : get_or (avail s).bytes k 0 ≡ b = a.is 0 in
-    rw (take_more (avail s).bytes k 0 a.below, byte, ← front) refl
+    rw (take_more (avail s).bytes k 0 a.below, byte, ← is) refl
 
-pub run-taken : (s : State) (pa n : ℕ) → n ≤ 15 → IsRun s pa n → bytes_of s.ram pa n ≡ take n (avail s).bytes
-run-taken s pa zero l r = bytes-none s.ram pa (avail s).bytes
-run-taken s pa (suc n) l r =
-    let less : IsRun s pa n = record { ram = record { each = λ k h. r.ram.each k (omega arith) }; bytes = λ k h. r.bytes k (omega arith) } in
-    let front = run-taken s pa n (omega arith) less in
-    let len : length (bytes_of s.ram pa n) ≡ n = length-bytes s.ram pa n in
-    let more = grown s (bytes_of s.ram pa n) n (byte_of s.ram (pa + n)) (sym len) (omega arith) (rw len front) (r.bytes n (omega arith)) in
-    let z : n + 1 ≡ suc n = omega arith in
-    rw (bytes-more s.ram pa n, ← z) more
+run-taken : (s : State) (code : List ℕ) (pa n : ℕ) → length code + n ≤ 15 → code ≡ take (length code) (avail s).bytes → IsRun s (length code) pa n → code ++ bytes_of s.ram pa n ≡ take (length code + n) (avail s).bytes
+run-taken s code pa zero l is r = let z : length code + 0 ≡ length code = omega arith in rw (z, bytes-none, append-nil) is
+run-taken s code pa (suc n) l is r =
+    let less : IsRun s (length code) pa n = record { ram = record { each = λ k h. r.ram.each k (omega arith) }; bytes = λ k h. r.bytes k (omega arith) } in
+    let front = run-taken s code pa n (omega arith) is less in
+    let len : length (code ++ bytes_of s.ram pa n) ≡ length code + n = length-append code (bytes_of s.ram pa n) ∙ ap (λ m. length code + m) (length-bytes s.ram pa n) in
+    let more = grown s (code ++ bytes_of s.ram pa n) (length code + n) (byte_of s.ram (pa + n)) (sym len) (omega arith) front (r.bytes n (omega arith)) in
+    let z : length code + suc n ≡ length code + n + 1 = omega arith in
+    rw (bytes-more s.ram pa n, z, ← append_assoc) more
 
 -- a load into the front of a buffer
 pub front-loaded : (ram : List Area) (pa n : ℕ) (buffer out : List ℕ) → n ≤ length buffer → out ≡ bytes_of ram pa (length (take n buffer)) → take n (out ++ drop n buffer) ≡ bytes_of ram pa n
@@ -114,28 +113,21 @@ front-loaded ram pa n buffer out h e =
     let len : length out ≡ n = ap length is ∙ length-bytes ram pa n in
     grind (arith, common_steps, len) ∙ is
 
--- the bytes that were loaded at once
-pub run-code : (s : State) (pa n : ℕ) (code old bytes : List ℕ) → n ≤ 15 → IsRun s pa n → old ≡ [] → code ≡ old ++ bytes → bytes ≡ bytes_of s.ram pa n → code ≡ take (length code) (avail s).bytes
-run-code s pa n code old bytes l r none e b =
-    let is : code ≡ bytes_of s.ram pa n = e ∙ ap (λ xs. xs ++ bytes) none ∙ b in
-    let len : length code ≡ n = ap length is ∙ length-bytes s.ram pa n in
-    rw len (is ∙ run-taken s pa n l r)
+-- the bytes of a run, put behind those that were read
+pub run-read : (s : State) (code new bytes : List ℕ) (i pa n : ℕ) → i ≡ length code → i + n ≤ 15 → code ≡ take (length code) (avail s).bytes → IsRun s i pa n → new ≡ code ++ bytes → bytes ≡ bytes_of s.ram pa n → new ≡ take (length new) (avail s).bytes
+run-read s code new bytes i pa n k l is r e b =
+    let all : new ≡ code ++ bytes_of s.ram pa n = e ∙ ap (λ xs. code ++ xs) b in
+    let len : length new ≡ length code + n = ap length all ∙ length-append code (bytes_of s.ram pa n) ∙ ap (λ m. length code + m) (length-bytes s.ram pa n) in
+    rw len (all ∙ run-taken s code pa n (rw k at l) is (rw k at r))
 
--- ---- a loop that reads byte after byte
+pub run-longer : (ram : List Area) (code new bytes : List ℕ) (pa n : ℕ) → 0 < n → new ≡ code ++ bytes → bytes ≡ bytes_of ram pa n → length code < length new
+run-longer ram code new bytes pa n h e b = omega (arith, ap length e, length-append code bytes, ap length b, length-bytes ram pa n)
 
--- what the code tells of a byte
-told-ok : (r : Result ℕ Ending) (b : ℕ) → Ok b ≡ stopped r → r ≡ Ok b
-told-ok (Ok x) b e = let same : b ≡ x = cc in rw same refl
-told-ok (Err x) b e = cc
+-- ---- the end of what can be had
 
 told-err : (r : Result ℕ Ending) (x : Stop) → Err x ≡ stopped r → (e : Ending) × (r ≡ Err e) × (x ≡ stop_of e)
 told-err (Ok b) x e = cc
 told-err (Err y) x e = (y, refl, cc)
-
-pub code-more : (s : State) (code new : List ℕ) (k b : ℕ) → k ≡ length code → k < 15 → code ≡ take (length code) (avail s).bytes → Ok b ≡ stopped (code_byte s k) → new ≡ code ++ b ∷ [] → new ≡ take (length new) (avail s).bytes
-code-more s code new k b n l is e p =
-    let len : length new ≡ k + 1 = (let m = ap length p ∙ length-append code (b ∷ []) in omega arith) in
-    rw len (p ∙ grown s code k b n l is (told-ok _ b e))
 
 ended : (s : State) (code : List ℕ) (k : ℕ) (x : Ending) → k ≡ length code → code ≡ take (length code) (avail s).bytes → Ends (avail s) k x → (code ≡ (avail s).bytes) × (stop_of x ≡ stop_of (avail s).reason)
 ended s code k x n is a =
@@ -156,15 +148,11 @@ code-full s code l is =
     let count = a.count in
     (is ∙ take_all (length code) (avail s).bytes (omega arith), ap stop_of (sym a.why))
 
--- one byte of them
-pub byte-missing : (s : State) (code : List ℕ) (i k : ℕ) (x : Stop) → k ≡ length code → k ≤ i → i ≤ 14 → code ≡ take (length code) (avail s).bytes → Err x ≡ stopped (code_byte s k) → Err x ≡ byte_at (avail s) i
-byte-missing s code i k x n l small is e =
-    let why = told-err _ x e in
-    let a = ends_next s k why.0 (omega arith) (rw n (taken-fits _ _ is)) why.1 in
-    let c = a.count in
-    let t : nat_lt i (length (avail s).bytes) ≡ false = (let m : length (avail s).bytes ≤ i = omega arith in grind (arith, nat_tests)) in
-    let missing : byte_at (avail s) i ≡ Err (stop_of (avail s).reason) = rw t refl in
-    ap Err (why.2 ∙ ap stop_of (sym a.why)) ∙ sym missing
+-- one byte of them, or why it is missing
+pub byte-missing : (s : State) (code : List ℕ) (i : ℕ) (x : Stop) → length code ≤ i → code ≡ (avail s).bytes → x ≡ stop_of (avail s).reason → Err x ≡ byte_at (avail s) i
+byte-missing s code i x l is e =
+    let t : nat_lt i (length (avail s).bytes) ≡ false = (let m : length (avail s).bytes ≤ i = omega (arith, ap length is) in grind (arith, nat_tests)) in
+    rw (t, e) refl
 
 pub code-at : (s : State) (code : List ℕ) (i : ℕ) → i < length code → code ≡ take (length code) (avail s).bytes → Ok (get_or code i 0) ≡ byte_at (avail s) i
 code-at s code i l is =

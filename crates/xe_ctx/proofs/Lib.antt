@@ -11,6 +11,8 @@ pub mod Work
 pub mod Holes
 pub mod MachineLaws
 pub mod FetchLaws
+pub mod RunLaws
+pub mod AcceptLaws
 pub mod Pieces
 pub mod Stores
 pub mod Walks

@@ -97,63 +97,6 @@ impl<'a, B: Bus, I: Intercepts> Ctx<'a, B, I> {
         self.code.as_slice()
     }
 
-    /// Fetches all bytes of the instruction at CS:RIP that can be had, at most 15, and answers why the
-    /// next one can't: it is past the limit of CS, a sixteenth byte, or outside RAM. (SDM volume 2,
-    /// "Instruction Format".)
-    pub fn read_code(&mut self) -> Stop
-        requires open { IsOpen B.sight self.old }
-        requires none { code_of self.old ≡ [] }
-        ensures bytes_read { code_of self.new ≡ (avail (state_in self.old)).bytes }
-        ensures reason { result ≡ stop_of (avail (state_in self.old)).reason }
-        ensures same { SameHandles self.old self.new }
-        ensures open { IsOpen B.sight self.new }
-        ensures step { view B.sight I.hits self.new ≡ view B.sight I.hits self.old }
-        ensures accesses { accesses_left self.new ≡ accesses_left self.old }
-        ensures bytes { bytes_left self.new ≡ bytes_left self.old }
-    {
-        self.m.read_code(&mut self.code)
-    }
-
-    /// Byte `i` of the instruction at CS:RIP; or, exactly where there are not so many that can be
-    /// had, why the first that is missing can't: it is past the limit of CS, a sixteenth byte, or
-    /// outside RAM. (SDM volume 2, "Instruction Format".)
-    pub fn fetch(&mut self, i: u8) -> Result<u8, Stop>
-        requires open { IsOpen B.sight self.old }
-        requires small { i ≤ 14 }
-        ensures byte { result ≡ byte_at (avail (state_in self.old)) i }
-        ensures fetched { OnOk result (i < fetched_of self.new) }
-        ensures more { fetched_of self.old ≤ fetched_of self.new }
-        ensures same { SameHandles self.old self.new }
-        ensures open { IsOpen B.sight self.new }
-        ensures step { view B.sight I.hits self.new ≡ view B.sight I.hits self.old }
-        ensures accesses { accesses_left self.new ≡ accesses_left self.old }
-        ensures bytes { bytes_left self.new ≡ bytes_left self.old }
-    {
-        'more: while self.code.len() <= i as usize {
-            match self.m.code_byte(self.code.len() as u8) {
-                Ok(byte) => self.code.push(byte),
-                Err(stop) => return Err(stop),
-            }
-        }
-        Ok(self.code.as_slice()[i as usize])
-    }
-
-    /// The instruction is the first `len` bytes that were fetched.
-    #[tactic(auto, unfolding(crate::specs::Accept::accepted))]
-    pub fn accept(&mut self, len: u8)
-        requires open { IsOpen B.sight self.old }
-        requires fetched { len ≤ fetched_of self.old }
-        requires bytes { 10 ≤ bytes_left self.old }
-        ensures same { SameHandles self.old self.new }
-        ensures open { IsOpen B.sight self.new }
-        ensures step { view B.sight I.hits self.new ≡ accepts len (view B.sight I.hits self.old) }
-        ensures accesses { accesses_left self.new ≡ accesses_left self.old }
-        ensures bytes { bytes_left self.old ≤ bytes_left self.new + 10 }
-    {
-        // Without paging there are no entries to mark as accessed.
-        let _ = len;
-    }
-
     /// One access to a device.
     #[tactic(auto, using(crate::proofs::Trees::request_rules))]
     pub fn device(&mut self, a: Access) -> Result<Answer, Stop>

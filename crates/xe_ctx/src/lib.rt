@@ -6,6 +6,7 @@ pub mod bus;
 mod chunk;
 pub mod ctx;
 mod devices;
+mod fetch;
 pub mod laws;
 pub mod machine;
 mod memory;

@@ -8,9 +8,8 @@ ghost use Rattle.xe_ctx.specs.declared.overlay.Cell.{Cell};
 
 use crate::chunk::append;
 use crate::overlay::{Cell, load_patched, push_cells};
-use crate::stop::{Handoff, Stop};
 use arrayvec::ArrayVec;
-use xe_base::{BadState, Cpu, Fault, GENERAL_PROTECTION, Made};
+use xe_base::{BadState, Cpu, Made};
 use xe_mem::{GuestMem, Region};
 
 /// The lists of the running step. They stay here from one step to the next, and a step begins by
@@ -45,8 +44,6 @@ impl Machine {
     ghost use Rattle.xe_base.specs.State.{Valid, broken, answer_of};
     ghost use Rattle.xe_base.specs.Ram.{bytes_of, put_bytes};
     ghost use Rattle.xe_mem.specs.Layout.{regions_of};
-    ghost use Rattle.xe_ctx.specs.Ending.{stop_of, stopped};
-    ghost use Rattle.xe_ctx.specs.Fetch.{avail, code_byte, fetch_fault, IsRun};
     ghost use Rattle.xe_ctx.specs.Machine.{state_of, cells_of, made_of, work_of, CellsFit, first_hole};
     ghost use Rattle.xe_ctx.specs.Memory.{are_ram};
 
@@ -162,71 +159,6 @@ impl Machine {
         self.scratch.made.push(made);
     }
 
-    /// #GP(0) of a byte of the instruction that is past the limit of CS, or a sixteenth one.
-    #[tactic(auto, unfolding(crate::specs::Fetch::fetch_fault))]
-    fn fetch_fault(&self) -> Stop
-        ensures { result ≡ stop_of (fetch_fault (state_of self.now)) }
-    {
-        Stop::Fault(Fault::with_code(self.cpu.mode(), GENERAL_PROTECTION, 0))
-    }
-
-    /// Byte `i` behind RIP, or why it can't be had.
-    #[tactic(auto, unfolding(crate::specs::Fetch::code_byte))]
-    pub(crate) fn code_byte(&self, i: u8) -> Result<u8, Stop>
-        ensures { result ≡ stopped (code_byte (state_of self.now) i) }
-    {
-        let offset = self.cpu.rip.wrapping_add(i as u64) % (1 << 32);
-        if offset > self.cpu.cs.limit as u64 {
-            return Err(self.fetch_fault());
-        }
-        let pa = self.cpu.cs.base.wrapping_add(offset) % (1 << 32);
-        if !self.is_ram(pa, 1) {
-            return Err(Stop::Handoff(Handoff::Fetch(pa)));
-        }
-        let mut byte = [0; 1];
-        self.mem.load(pa, &mut byte);
-        Ok(byte[0])
-    }
-
-    /// How many of the instruction's bytes lie one behind another in RAM from its first one on, at
-    /// most 15: no further than the segment's limit, than 4 GiB in offsets and in addresses, and than
-    /// the RAM. And the address of the first.
-    fn code_run(&self) -> (u64, usize)
-        ensures within { result.1 ≤ 15 }
-        ensures run { IsRun (state_of self.now) result.0 result.1 }
-    {
-        let offset = self.cpu.rip % (1 << 32);
-        let limit = self.cpu.cs.limit as u64;
-        let pa = self.cpu.cs.base.wrapping_add(offset) % (1 << 32);
-        if offset > limit {
-            return (pa, 0);
-        }
-        let room = (limit - offset + 1).min((1 << 32) - pa);
-        let run = (self.mem.first_gap(pa) - pa).min(room).min(15);
-        (pa, run as usize)
-    }
-
-    /// Reads all bytes of the instruction that can be had, at most 15, and answers why the next one
-    /// can't. Nearly always one load reads them all; the loop is there for what lies behind the end of
-    /// a region, of the segment or of 4 GiB.
-    pub(crate) fn read_code(&self, code: &mut ArrayVec<u8, 15>) -> Stop
-        requires none { code.old.items ≡ [] }
-        ensures bytes_read { code.new.items ≡ (avail (state_of self.now)).bytes }
-        ensures reason { result ≡ stop_of (avail (state_of self.now)).reason }
-    {
-        let (pa, run) = self.code_run();
-        let mut bytes = [0; 15];
-        self.mem.load(pa, &mut bytes[..run]);
-        append_code(code, &bytes[..run]);
-        'more: while code.len() < 15 {
-            match self.code_byte(code.len() as u8) {
-                Ok(byte) => code.push(byte),
-                Err(stop) => return stop,
-            }
-        }
-        self.fetch_fault()
-    }
-
     /// Whether each of the `n` bytes is RAM.
     pub(crate) fn is_ram(&self, pa: u64, n: u64) -> bool
         ensures { result ≡ are_ram (state_of self.now).ram pa n }
@@ -275,16 +207,6 @@ impl Machine {
     {
         apply(&mut self.mem, self.scratch.cells.as_slice());
         self.cpu = cpu;
-    }
-}
-
-/// Puts bytes behind those of the instruction that were fetched.
-fn append_code(code: &mut ArrayVec<u8, 15>, bytes: &[u8])
-    requires { length code.old.items + length bytes.now ≤ 15 }
-    ensures { code.new.items ≡ code.old.items ++ bytes.now }
-{
-    match code.try_extend_from_slice(bytes) {
-        Ok(()) | Err(_) => {}
     }
 }
 

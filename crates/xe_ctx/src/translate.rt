@@ -6,7 +6,7 @@ ghost use Rattle.std.specs.Prelude.{◌≡◌, ◌+◌, ◌<◌, ◌≤◌, ◌^
 ghost use Rattle.xe_base.specs.Ram.{in_ram, byte_of, set_bits};
 ghost use Rattle.xe_base.specs.State.{pg};
 ghost use Rattle.xe_walk.specs.Entry.{entry_of};
-ghost use Rattle.xe_walk.specs.Walk.{walk, walked};
+ghost use Rattle.xe_walk.specs.Walk.{walk, walked, entries};
 ghost use Rattle.xe_ctx.specs.Ending.{stop_of};
 ghost use Rattle.xe_ctx.specs.Is.{Does};
 ghost use Rattle.xe_ctx.specs.Machine.{state_of, cells_of, made_of, work_of, CellsFit};
@@ -68,7 +68,7 @@ fn entry_bits(last: bool, write: bool) -> u8
 }
 
 /// How a step ends where a translation is refused.
-fn ending_of(refused: WalkStop) -> Stop
+pub(crate) fn ending_of(refused: WalkStop) -> Stop
     ensures { result ≡ stop_of (walk_ending refused) }
 {
     match refused {
@@ -78,6 +78,23 @@ fn ending_of(refused: WalkStop) -> Stop
 }
 
 impl Machine {
+    /// Translates a linear address over the RAM with these changed bytes.
+    fn walk_over(&self, cells: &[Cell], la: u64, kind: Kind) -> Result<Hit, WalkStop>
+        ensures is { walked result ≡ walk (patched (state_of self.now).ram cells.now) (state_of self.now).cpu la kind }
+        ensures page { IfOk result (λ hit. hit.pa % 4096 ≡ la % 4096) }
+        ensures below { pg (state_of self.now).cpu ≡ true → IfOk result (λ hit. hit.pa < 2 ^ 40) }
+        ensures few { IfOk result (λ hit. length hit.used.items ≤ 4) }
+        ensures ram { IfOk result (λ hit. AreEntries (state_of self.now).ram hit.used.items) }
+        ensures visits { IfOk result (λ hit. hit.used.items ≡ entries (patched (state_of self.now).ram cells.now) (state_of self.now).cpu la) }
+    {
+        let mut working = Working {
+            mem: &self.mem,
+            cells,
+            reads: 0,
+        };
+        translate(&self.cpu, &mut working, la, kind)
+    }
+
     /// Translates a linear address over the RAM as the running step sees it.
     pub(crate) fn walk(&self, la: u64, kind: Kind) -> Result<Hit, WalkStop>
         ensures is { walked result ≡ walk (work_of self.now) (state_of self.now).cpu la kind }
@@ -86,12 +103,18 @@ impl Machine {
         ensures few { IfOk result (λ hit. length hit.used.items ≤ 4) }
         ensures ram { IfOk result (λ hit. AreEntries (state_of self.now).ram hit.used.items) }
     {
-        let mut working = Working {
-            mem: &self.mem,
-            cells: self.scratch.cells.as_slice(),
-            reads: 0,
-        };
-        translate(&self.cpu, &mut working, la, kind)
+        self.walk_over(self.scratch.cells.as_slice(), la, kind)
+    }
+
+    /// Translates a linear address over the RAM as it was when the step began: so does fetching.
+    #[tactic(auto, unfolding(crate::specs::Work::patched))]
+    pub(crate) fn walk_at_start(&self, la: u64, kind: Kind) -> Result<Hit, WalkStop>
+        ensures is { walked result ≡ walk (state_of self.now).ram (state_of self.now).cpu la kind }
+        ensures few { IfOk result (λ hit. length hit.used.items ≤ 4) }
+        ensures ram { IfOk result (λ hit. AreEntries (state_of self.now).ram hit.used.items) }
+        ensures visits { IfOk result (λ hit. hit.used.items ≡ entries (state_of self.now).ram (state_of self.now).cpu la) }
+    {
+        self.walk_over(&[], la, kind)
     }
 
     /// A byte of the RAM, as the running step sees it.

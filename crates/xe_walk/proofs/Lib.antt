@@ -4,4 +4,5 @@ pub mod Descents
 pub mod Bounds
 pub mod UsedLaws
 pub mod Dependence
+pub mod Together
 mod TestRam

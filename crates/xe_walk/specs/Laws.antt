@@ -1,4 +1,4 @@
-use Rattle.std.specs.Prelude.{ℕ, ◌≡◌, ◌<◌, ◌+◌, ◌%◌, ◌^◌, ◌==◌, List, [], ◌∷◌, length, Ok, true, false, if◌then◌else◌, All}
+use Rattle.std.specs.Prelude.{ℕ, ◌≡◌, ◌<◌, ◌+◌, ◌%◌, ◌^◌, ◌==◌, List, [], ◌∷◌, length, Result, Ok, Err, Some, true, false, if◌then◌else◌, All}
 use Rattle.xe_base.specs.Bits.{bit}
 use Rattle.xe_base.specs.Ram.{Area, in_ram, byte_of}
 use Rattle.xe_base.specs.State.{pae, lma, pg}
@@ -9,6 +9,8 @@ use Rattle.xe_walk.specs.Walk.{Reached, walk, entries}
 use Rattle.xe_walk.specs.declared.entry.Used.{Used}
 use Rattle.xe_walk.specs.declared.format.Level.{Level}
 use Rattle.xe_walk.specs.declared.rights.Kind.{Kind}
+use Rattle.xe_walk.specs.declared.walk.WalkStop.{WalkStop}
+use Rattle.xe_walk.specs.declared.walk.WalkStop.TheVariants.{Page, EntryNotRam}
 
 -- What the definition of the walk comes to, in the manual's words.
 
@@ -67,3 +69,17 @@ abbrev pub DependsOnEntriesAlone : Type 0
 DependsOnEntriesAlone =
     (one other : List Area) (cpu : Cpu) (la : ℕ) (kind : Kind) → Agree one other (entries one cpu la)
     → (walk other cpu la kind ≡ walk one cpu la kind) × (entries other cpu la ≡ entries one cpu la)
+
+-- ---- the bytes of a page
+
+-- a translation of the byte that lies k further: its place is k further, and CR2 of a page fault is its own address
+abbrev pub further : ℕ → ℕ → Result Reached WalkStop → Result Reached WalkStop
+further la k (Ok r) = Ok (record { pa = r.pa + k; used = r.used })
+further la k (Err (Page f)) = Err (Page (record f { cr2 = Some (la + k) }))
+further la k (Err (EntryNotRam pa)) = Err (EntryNotRam pa)
+
+-- the bytes of a page of 4 KiB are translated together: by the same entries, each to its place in the page or to the same fault
+abbrev pub TranslatesPagesTogether : Type 0
+TranslatesPagesTogether =
+    (ram : List Area) (cpu : Cpu) (la k : ℕ) (kind : Kind) → la % 4096 + k < 4096
+    → (walk ram cpu (la + k) kind ≡ further la k (walk ram cpu la kind)) × (entries ram cpu (la + k) ≡ entries ram cpu la)

@@ -1,6 +1,6 @@
 //! Laws of the definition of the walk, each as the contract of a function that does nothing.
 
-ghost use Rattle.xe_walk.specs.Laws.{UsesAsPageSizeSays, UsesPresentEntries, DependsOnEntriesAlone};
+ghost use Rattle.xe_walk.specs.Laws.{UsesAsPageSizeSays, UsesPresentEntries, DependsOnEntriesAlone, TranslatesPagesTogether};
 
 /// A walk that ends well used as many entries as its page's size says: a 4 KiB page two in 32-bit paging,
 /// three in PAE paging and four in 4-level paging, a larger page fewer. The linear address gives the place
@@ -19,4 +19,10 @@ pub fn used_entries_are_present()
 /// on these, the walks and the entries visited are the same.
 pub fn walks_depend_on_their_entries()
     ensures { DependsOnEntriesAlone }
+{}
+
+/// The bytes of a page of 4 KiB are translated together: by the same entries, each to its place in the page.
+/// Where one has no translation, none has, for the same reason; CR2 of a page fault is each one's own address.
+pub fn pages_are_translated_together()
+    ensures { TranslatesPagesTogether }
 {}
