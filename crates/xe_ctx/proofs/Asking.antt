@@ -1,4 +1,4 @@
-use Rattle.std.proofs.Common.{ℕ, suc, ◌≡◌, ◌<◌, ◌≤◌, ◌+◌, ◌-◌, ◌&&◌, List, [], ◌∷◌, ◌++◌, Option, Some, None, IsSome, IsTrue, Ok, Err, refl, sym, ap, subst, ◌∙◌, arith, Bool, true, false, length, drop, get_or, append_assoc, length-append, add-one}
+use Rattle.std.proofs.Common.{ℕ, suc, ◌≡◌, ◌<◌, ◌≤◌, ◌+◌, ◌&&◌, List, [], ◌∷◌, ◌++◌, Option, Some, None, IsSome, IsTrue, Ok, Err, refl, sym, ap, subst, ◌∙◌, arith, Bool, true, false, length, drop, get_or, append_assoc, length-append}
 use Rattle.std.proofs.Math.Seq.{drop-cons}
 use Rattle.std.proofs.lemmas.List.{append-nil, drop_all, drop-append-le}
 use Rattle.std.proofs.lemmas.List.Elements.{All-nil, All-cons}
@@ -10,7 +10,7 @@ use Rattle.xe_ctx.specs.Bus.{BusView, Replies}
 use Rattle.xe_ctx.specs.Is.{Sight, Moves, Leaves, Stood, StandsAt, IsNext, Equals, Does, does, Comes, WaitsFor, AsksEach, supply_of, fresh}
 use Rattle.xe_ctx.specs.Kept.{Agrees, expected, expected_from, same_access}
 use Rattle.xe_ctx.specs.Part.{View, Gave, Waits, ask}
-use Rattle.xe_ctx.specs.Supply.{Supply, Supplies, Lack, Taken, Got, Lacks, Unready, Failing, answers, from_tape, next_answer, taken}
+use Rattle.xe_ctx.specs.Supply.{Supply, Lack, Got, Lacks, from_tape, next_answer}
 use Rattle.xe_ctx.specs.Supply.{replied as told_by}
 use Rattle.xe_ctx.specs.Tape.{Tape, IsTold}
 use Rattle.xe_ctx.specs.Tape.{ask as asked}

@@ -1,6 +1,5 @@
 use Rattle.std.proofs.Common.{ℕ, ◌+◌, ◌-◌, ◌≤◌, arith, Bool, true, false, if◌then◌else◌}
-use Rattle.xe_base.specs.declared.access.Answer.{Answer}
-use Rattle.xe_ctx.specs.Bounds.{accesses_of, touched_by, Affords, TakesAtMost}
+use Rattle.xe_ctx.specs.Bounds.{accesses_of, touched_by, TakesAtMost}
 use Rattle.xe_ctx.specs.Tree.{Tree, asks, fault, event, handoff, give, ◌>>=◌}
 
 -- what fits fits in more

@@ -1,8 +1,7 @@
-use Rattle.std.proofs.Common.{ℕ, ◌≡◌, ◌≤◌, ◌+◌, ◌*◌, Bool, true, false, subst, sym, inl, inr, arith, lit≤, if◌then◌else◌, ◌==◌}
+use Rattle.std.proofs.Common.{ℕ, ◌≤◌, Bool, true, false, subst, sym, inl, inr, arith, lit≤, if◌then◌else◌}
 use Rattle.std.proofs.lemmas.Bool.{or_cases, eqb-true}
 use Rattle.xe_base.specs.State.{is_long, seg_db}
 use Rattle.xe_base.specs.declared.cpu.Cpu.{Cpu}
-use Rattle.xe_base.specs.declared.segment.SegName.{SegName}
 use Rattle.xe_opmap.specs.Encoding.{IsSize}
 use Rattle.xe_opmap.specs.declared.insn.Insn.{Insn}
 use Rattle.xe_ctx.specs.Bounds.{TakesAtMost}
@@ -11,10 +10,10 @@ use Rattle.xe_ctx.specs.Operand.{read_operand, read_for_write, write_operand}
 use Rattle.xe_ctx.specs.Ports.{tss_word, by_bitmap, port_allowed, asks_bitmap}
 use Rattle.xe_ctx.specs.Privilege.{or_protection}
 use Rattle.xe_ctx.specs.Stack.{stack_size, stack_load, push}
-use Rattle.xe_ctx.specs.Tree.{Tree, ◌>>=◌, load, load_for_write, store, load_sys}
+use Rattle.xe_ctx.specs.Tree.{◌>>=◌, load, load_for_write, store, load_sys}
 use Rattle.xe_ctx.specs.declared.operand.Operand.{Operand}
 use Rattle.xe_ctx.specs.declared.operand.Operand.TheVariants.{Register, Memory}
-use Rattle.xe_ctx.proofs.BoundLaws.{takes_more, takes_then, takes_if}
+use Rattle.xe_ctx.proofs.BoundLaws.{takes_then, takes_if}
 
 -- What the parts that rows share take at most: requests, accesses and bytes of RAM touched.
 

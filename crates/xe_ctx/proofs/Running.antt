@@ -1,4 +1,4 @@
-use Rattle.std.proofs.Common.{◌≡◌, List, [], ◌∷◌, ◌++◌, refl, ap, Option}
+use Rattle.std.proofs.Common.{◌≡◌, List, [], refl, ap, Option}
 use Rattle.xe_base.specs.Ram.{Area}
 use Rattle.xe_base.specs.declared.access.Made.{Made}
 use Rattle.xe_icpt.specs.declared.exit.Exit.{Exit}

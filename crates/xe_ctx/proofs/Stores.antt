@@ -1,5 +1,4 @@
-use Rattle.std.proofs.Common.{ℕ, ◌≡◌, ◌<◌, ◌≤◌, ◌+◌, ◌-◌, ◌%◌, List, [], Result, Ok, Err, length, drop, take, arith, true, false, inl, inr}
-use Rattle.std.proofs.lemmas.Bool.{cases_lt}
+use Rattle.std.proofs.Common.{ℕ, ◌≡◌, ◌<◌, ◌≤◌, ◌+◌, ◌-◌, ◌%◌, List, [], Result, Ok, Err, length, drop, take, arith, true, false}
 use Rattle.std.proofs.lemmas.List.{take_all, length-drop, length-take}
 use Rattle.xe_base.specs.Ram.{Area, put_bytes}
 use Rattle.xe_walk.specs.declared.rights.Kind.{Kind}
@@ -8,7 +7,7 @@ use Rattle.xe_ctx.specs.Is.{Sight, Does}
 use Rattle.xe_ctx.specs.Memory.{bits_of, next_page, place, are_ram, write_if, write_bytes, write_place, devices_write, width, store_at}
 use Rattle.xe_ctx.specs.Part.{View}
 use Rattle.xe_ctx.specs.declared.stop.Stop.{Stop}
-use Rattle.xe_ctx.proofs.Binds.{does_then, does_stop, does_look, does_change, gather_one, gather_first, gather_second, each_one, each_first, each_two, each_second}
+use Rattle.xe_ctx.proofs.Binds.{does_then, does_stop, does_look, does_change, each_one, each_first, each_two, each_second}
 use Rattle.xe_ctx.proofs.Pieces.{place-one, place-none, place-second, place-two, two-room}
 
 -- a piece

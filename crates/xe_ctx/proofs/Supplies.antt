@@ -1,4 +1,4 @@
-use Rattle.std.proofs.Common.{ℕ, ◌≡◌, ◌<◌, ◌≤◌, ◌+◌, List, [], ◌∷◌, ◌++◌, Option, Some, None, Result, refl, sym, ap, subst, ◌∙◌, append_assoc, arith}
+use Rattle.std.proofs.Common.{◌≡◌, ◌≤◌, List, [], ◌∷◌, ◌++◌, Option, Some, None, refl, sym, ap, subst, ◌∙◌, append_assoc, arith}
 use Rattle.std.proofs.lemmas.List.{append-nil}
 use Rattle.std.proofs.lemmas.List.Elements.{All-append}
 use Rattle.xe_base.specs.Access.{IsWellMade}
@@ -6,8 +6,8 @@ use Rattle.xe_base.specs.Ram.{Area}
 use Rattle.xe_base.specs.declared.access.Access.{Access}
 use Rattle.xe_base.specs.declared.access.Made.{Made}
 use Rattle.xe_ctx.specs.Is.{Sight, Plays, Moves, Leaves, Stood, IsAt, AsksEach, supply_of}
-use Rattle.xe_ctx.specs.Part.{View, Ran}
-use Rattle.xe_ctx.specs.Supply.{Supply, Supplies, Lack, Lacks, next_answer}
+use Rattle.xe_ctx.specs.Part.{Ran}
+use Rattle.xe_ctx.specs.Supply.{Supply, Supplies, Lack}
 use Rattle.xe_ctx.specs.Tape.{Tape}
 use Rattle.xe_ctx.specs.declared.stop.Stop.{Stop}
 use Rattle.xe_ctx.specs.declared.stop.Stop.TheVariants as stops

@@ -1,4 +1,4 @@
-use Rattle.std.proofs.Common.{ℕ, zero, suc, ◌≡◌, ◌∙◌, ◌<◌, ◌≤◌, ◌+◌, ◌^◌, ◌⊎◌, inl, inr, List, [], ◌∷◌, ◌++◌, length, take, drop, get_or, refl, sym, ap, arith, add-one, Bool, true, false, ◌&&◌, ◌==◌, if◌then◌else◌, Some, None, bit_or}
+use Rattle.std.proofs.Common.{ℕ, zero, suc, ◌≡◌, ◌∙◌, ◌<◌, ◌≤◌, ◌+◌, inl, inr, List, [], ◌∷◌, ◌++◌, length, take, drop, get_or, refl, sym, ap, arith, add-one, Bool, true, false, ◌&&◌, ◌==◌, if◌then◌else◌, Some, None, bit_or}
 use Rattle.std.specs.Prelude.{All, IfOk, Result, Ok, Err}
 use Rattle.std.proofs.Math.Seq.{drop-cons, take-append_seam}
 use Rattle.std.proofs.lemmas.Bool.{cases_lt}
@@ -15,7 +15,7 @@ use Rattle.xe_walk.specs.Entry.{entry_of, IsPlace}
 use Rattle.xe_walk.specs.Entry.{are_ram as all_ram}
 use Rattle.xe_walk.specs.Format.{IsLevel, levels_of}
 use Rattle.xe_walk.specs.Rights.{limiting}
-use Rattle.xe_walk.specs.Laws.{IsUsable, AreUsable}
+use Rattle.xe_walk.specs.Laws.{AreUsable}
 use Rattle.xe_walk.specs.Walk.{walk, walked}
 use Rattle.xe_walk.specs.declared.entry.Used.{Used}
 use Rattle.xe_walk.specs.declared.format.Level.{Level}
@@ -24,7 +24,7 @@ use Rattle.xe_walk.specs.declared.walk.Hit.{Hit}
 use Rattle.xe_walk.specs.declared.walk.WalkStop.{WalkStop}
 use Rattle.xe_ctx.proofs.Work.{are_ram-same, are_ram-patched, in-patched}
 use Rattle.xe_ctx.specs.Memory.{are_ram}
-use Rattle.xe_ctx.specs.Translate.{accessed_bit, page_bits, marks, marked, IsEntry, AreEntries}
+use Rattle.xe_ctx.specs.Translate.{page_bits, marks, marked, AreEntries}
 use Rattle.xe_ctx.specs.Work.{patched}
 use Rattle.xe_ctx.specs.declared.overlay.Cell.{Cell}
 

@@ -1,6 +1,5 @@
-use Rattle.std.proofs.Common.{ℕ, ◌≡◌, Bool, true, false, not, Option, Some, None, refl, sym, ◌∙◌, if◌then◌else◌, ◌||◌, ◌&&◌}
-use Rattle.xe_base.specs.Bits.{bit, only}
-use Rattle.xe_base.specs.State.{Valid, broken, needs, lma, lme, pe, pg, is_long, flags_are_valid, cr0_is_valid, cr4_is_valid, efer_is_valid, paging_is_valid, segments_are_valid, level_is_valid, code_is_valid, pointer_is_valid}
+use Rattle.std.proofs.Common.{ℕ, ◌≡◌, Bool, true, false, not, Option, Some, None, refl, if◌then◌else◌, ◌&&◌}
+use Rattle.xe_base.specs.State.{Valid, broken, lma, lme, pg, is_long, flags_are_valid, cr0_is_valid, cr4_is_valid, efer_is_valid, paging_is_valid, segments_are_valid, level_is_valid, code_is_valid, pointer_is_valid}
 use Rattle.xe_base.specs.declared.cpu.Cpu.{Cpu}
 
 -- the rules as answers

@@ -2,7 +2,7 @@ use Rattle.std.specs.Prelude.{◌≡◌, List, [], ◌∷◌, Option, Some, None
 use Rattle.xe_base.specs.declared.access.Access.{Access}
 use Rattle.xe_base.specs.declared.access.Answer.{Answer}
 use Rattle.xe_base.specs.declared.access.Made.{Made}
-use Rattle.xe_ctx.specs.Tape.{Tape, Asked, ask}
+use Rattle.xe_ctx.specs.Tape.{Tape, ask}
 use Rattle.xe_ctx.specs.declared.bus.Reply.{Reply}
 use Rattle.xe_ctx.specs.declared.bus.Reply.TheVariants.{Ready, NotYet, Failed}
 

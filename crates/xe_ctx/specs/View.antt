@@ -1,4 +1,4 @@
-use Rattle.std.specs.Prelude.{ℕ, ◌≡◌, ◌+◌, ◌-◌, ◌≤◌, List, [], length, take, All, IsSome, Option, Some, None, Result, Ok, Err}
+use Rattle.std.specs.Prelude.{ℕ, ◌≡◌, ◌+◌, ◌-◌, ◌≤◌, List, length, take, All, IsSome, Option, Some, Result, Ok, Err}
 use Rattle.std.specs.Borrow.{MutBor}
 use Rattle.arrayvec.specs.ArrayVec.{ArrayVec}
 use Rattle.xe_base.specs.Access.{IsWellFormed, IsWellMade}

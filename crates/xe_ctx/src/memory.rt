@@ -232,10 +232,10 @@ impl<'a, B: Bus, I: Intercepts> Ctx<'a, B, I> {
             return self.read_piece(pa, n);
         }
         let next = self.next_page(la, kind);
-        let first = self.place(la, kind)?;
-        let second = self.place(next, kind)?;
-        let mut bytes = self.read_piece(first, room)?;
-        let rest = self.read_piece(second, n - room)?;
+        let low = self.place(la, kind)?;
+        let high = self.place(next, kind)?;
+        let mut bytes = self.read_piece(low, room)?;
+        let rest = self.read_piece(high, n - room)?;
         append(&mut bytes, rest.as_slice());
         Ok(bytes)
     }

@@ -1,5 +1,4 @@
-use Rattle.std.proofs.Common.{◌≡◌, ◌∙◌, ◌+◌, ◌≤◌, refl, arith}
-use Rattle.xe_walk.specs.declared.entry.Used.{Used}
+use Rattle.std.proofs.Common.{◌∙◌, refl, arith}
 use Rattle.xe_ctx.proofs.Walks.{marks-step, marks-end}
 use Rattle.xe_ctx.proofs.machine.Machine.mark_each.Goals as goal
 
