@@ -1,4 +1,4 @@
-use Rattle.std.proofs.Common.{ℕ, ◌≡◌, ◌≤◌, ◌+◌, Bool, true, false, lit≤, arith, if◌then◌else◌, ◌==◌}
+use Rattle.std.proofs.Common.{ℕ, Bool, lit≤, arith}
 use Rattle.xe_base.specs.declared.access.Access.{Access}
 use Rattle.xe_base.specs.declared.cpu.Cpu.{Cpu}
 use Rattle.xe_base.specs.declared.segment.SegName.{SegName}
@@ -7,18 +7,16 @@ use Rattle.xe_opmap.specs.declared.row.Row.{Row}
 use Rattle.xe_opmap.specs.declared.row.Row.TheVariants as row
 use Rattle.xe_ctx.specs.Bounds.{TakesAtMost}
 use Rattle.xe_ctx.specs.Operand.{IsOf, ends, size_by_opcode}
-use Rattle.xe_ctx.specs.Tree.{Tree, ◌>>=◌, give, load, store, probe, device, point}
-use Rattle.xe_ctx.proofs.BoundLaws.{takes_more, takes_then, takes_if}
+use Rattle.xe_ctx.specs.Tree.{◌>>=◌, load, store, probe, device, point}
+use Rattle.xe_ctx.proofs.BoundLaws.{takes_then, takes_if}
 use Rattle.xe_ctx.proofs.RowBounds.{Small, small-1, small-4, small-of, small-if, takes_port_allowed}
 use Rattle.xe_string.specs.Compare.{cmps_element, scas_element}
 use Rattle.xe_string.specs.Element.{element}
-use Rattle.xe_string.specs.Index.{source_segment}
-use Rattle.xe_string.specs.Port.{port_size, port_point, port_reached, received, ins_element, outs_element}
+use Rattle.xe_string.specs.Port.{port_size, port_reached, received, ins_element, outs_element}
 use Rattle.xe_string.specs.Repeat.{is_over, repeated}
 use Rattle.xe_string.specs.Rows.{row_at, or_undefined, row_of}
 use Rattle.xe_string.specs.Transfer.{movs_element, stos_element, lods_element}
 use Rattle.xe_string.specs.declared.element.StringOp.{StringOp}
-use Rattle.xe_string.specs.declared.element.StringOp.TheVariants as StringOp
 
 -- ---- single requests
 

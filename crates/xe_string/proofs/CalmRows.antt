@@ -1,9 +1,11 @@
-use Rattle.std.proofs.Common.{ℕ, ◌≡◌, ◌<◌, ◌^◌, Bool, true, false, not, ◌||◌, refl, sym, ap, ◌∙◌, arith, if◌then◌else◌, Option, Some, None, Result, Ok, Err, IfOk}
+use Rattle.std.proofs.Common.{ℕ, ◌≡◌, ◌<◌, ◌^◌, Bool, true, false, not, refl, sym, ap, ◌∙◌, arith, if◌then◌else◌, Option, Some, None, Result, Ok, Err, IfOk}
 use Rattle.std.proofs.lemmas.Bool.Decides.{nat_tests}
 use Rattle.xe_base.specs.State.{Valid, broken, is_long, flags_are_valid, cr0_is_valid, cr4_is_valid, efer_is_valid, paging_is_valid, segments_are_valid, level_is_valid, code_is_valid, pointer_is_valid}
 use Rattle.xe_base.specs.declared.cpu.Cpu.{Cpu}
 use Rattle.xe_base.proofs.CalmLaws.{calm_keeps_valid}
 use Rattle.xe_flags.proofs.FlagSet.{fixed_written}
+use Rattle.xe_flags.specs.Status.{with_status}
+use Rattle.xe_flags.specs.declared.status.Status.{Status}
 use Rattle.xe_opmap.specs.declared.insn.Insn.{Insn}
 use Rattle.xe_opmap.specs.declared.row.Row.{Row}
 use Rattle.xe_opmap.specs.declared.row.Row.TheVariants as row
@@ -12,22 +14,17 @@ use Rattle.xe_ctx.specs.Is.{Sight, Is}
 use Rattle.xe_ctx.specs.Operand.{IsOf, ends_with, ends}
 use Rattle.xe_ctx.specs.Plain.{EndsPlainly}
 use Rattle.xe_ctx.specs.Runs.{finished}
-use Rattle.xe_ctx.specs.Tree.{◌>>=◌, give}
 use Rattle.xe_ctx.specs.declared.stop.End.{End}
 use Rattle.xe_ctx.specs.declared.stop.Finish.{Finish}
 use Rattle.xe_ctx.specs.declared.stop.Stop.{Stop}
 use Rattle.xe_ctx.proofs.FinishLaws.{each_then, each_implies, gives_of}
-use Rattle.xe_ctx.proofs.Tame.{Tame, tame_same, tame_flags, tame_register, tame_if, plain_end, asked_then, each_if}
-use Rattle.xe_string.specs.Compare.{cmps_element, scas_element}
+use Rattle.xe_ctx.proofs.Tame.{Tame, tame_same, tame_flags, tame_register, plain_end, each_if}
 use Rattle.xe_string.specs.Element.{element}
-use Rattle.xe_string.specs.Index.{si, di, moved, both_moved}
-use Rattle.xe_string.specs.Port.{ins_element, outs_element}
 use Rattle.xe_string.specs.Prefix.{is_repeated}
-use Rattle.xe_string.specs.Repeat.{count, with_count, goes_on, counted, after_element, is_over, repeated, EndsElement}
+use Rattle.xe_string.specs.Repeat.{with_count, goes_on, counted, is_over, repeated, EndsElement}
 use Rattle.xe_string.specs.Rows.{row_at, or_undefined, row_of, is_row}
-use Rattle.xe_string.specs.Transfer.{movs_element, stos_element, lods_element}
 use Rattle.xe_string.specs.declared.element.StringOp.{StringOp}
-use Rattle.xe_string.specs.declared.element.StringOp.TheVariants as StringOp
+use Rattle.xe_string.proofs.ElementLaws.{element_keeps}
 
 -- ---- the instruction pointer of a valid state
 
@@ -59,53 +56,11 @@ pointer-fits cpu valid short = let p = rw short at (pointer-of cpu valid) in gri
 -- ---- what the elements change
 
 module _ (insn : Insn) (cpu : Cpu) where
-  tame-moved : (after : Cpu) (register n : ℕ) → Tame cpu after → Tame cpu (moved insn after register n)
-  unfolding moved
-  tame-moved after register n t = tame_register _ _ _ _ t
-
-  tame-both : (n : ℕ) → Tame cpu (both_moved insn cpu n)
-  tame-both n = tame-moved (moved insn cpu si n) di n (tame-moved cpu si n (tame_same cpu))
-
-  tame-movs : EachGives (Tame cpu) (movs_element insn cpu)
-  unfolding movs_element
-  tame-movs = asked_then (Tame cpu) _ _ (λ value. asked_then (Tame cpu) _ _ (λ u. tame-both _))
-
-  tame-stos : EachGives (Tame cpu) (stos_element insn cpu)
-  unfolding stos_element
-  tame-stos = asked_then (Tame cpu) _ _ (λ u. tame-moved cpu di _ (tame_same cpu))
-
-  tame-lods : EachGives (Tame cpu) (lods_element insn cpu)
-  unfolding lods_element
-  tame-lods = asked_then (Tame cpu) _ _ (λ value. tame-moved _ si _ (tame_register _ _ _ value (tame_same cpu)))
-
-  -- the flags of a comparison after another change that kept the flags
-  tame-compared : (after : Cpu) (flags : ℕ) → Tame cpu after → Tame cpu (record cpu { rflags = flags }) → Tame cpu (record after { rflags = flags })
-  tame-compared after flags t f = record { rest = ap (λ (c : Cpu). record c { rflags = flags }) t.rest; flags = f.flags }
-
-  tame-cmps : EachGives (Tame cpu) (cmps_element insn cpu)
-  unfolding cmps_element
-  tame-cmps = asked_then (Tame cpu) _ _ (λ a. asked_then (Tame cpu) _ _ (λ b. tame-compared _ _ (tame-both _) (tame_flags _ (tame_same cpu) (fixed_written cpu.rflags _))))
-
-  tame-scas : EachGives (Tame cpu) (scas_element insn cpu)
-  unfolding scas_element
-  tame-scas = asked_then (Tame cpu) _ _ (λ b. tame-compared _ _ (tame-moved cpu di _ (tame_same cpu)) (tame_flags _ (tame_same cpu) (fixed_written cpu.rflags _)))
-
-  tame-ins : EachGives (Tame cpu) (ins_element insn cpu)
-  unfolding ins_element
-  tame-ins = asked_then (Tame cpu) _ _ (λ u. asked_then (Tame cpu) _ _ (λ v. tame-moved cpu di _ (tame_same cpu)))
-
-  tame-outs : EachGives (Tame cpu) (outs_element insn cpu)
-  unfolding outs_element
-  tame-outs = asked_then (Tame cpu) _ _ (λ u. asked_then (Tame cpu) _ _ (λ value. asked_then (Tame cpu) _ _ (λ a. tame-moved cpu si _ (tame_same cpu))))
+  tame-status : (after : Cpu) (s : Status) → Tame cpu after → Tame cpu (record after { rflags = with_status cpu.rflags s })
+  tame-status after s t = tame_flags _ t (fixed_written cpu.rflags s ∙ sym t.flags)
 
   tame-element : (op : StringOp) → EachGives (Tame cpu) (element op insn cpu)
-  tame-element StringOp.Movs = tame-movs
-  tame-element StringOp.Cmps = tame-cmps
-  tame-element StringOp.Stos = tame-stos
-  tame-element StringOp.Lods = tame-lods
-  tame-element StringOp.Scas = tame-scas
-  tame-element StringOp.Ins = tame-ins
-  tame-element StringOp.Outs = tame-outs
+  tame-element op = element_keeps insn cpu (Tame cpu) (tame_same cpu) (λ after n rex r value t. tame_register n rex r value t) tame-status op
 
   -- ---- how the step ends
 

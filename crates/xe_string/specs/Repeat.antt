@@ -1,4 +1,4 @@
-use Rattle.std.specs.Prelude.{◌≡◌, ◌-◌, ◌==◌, ◌&&◌, ◌||◌, if◌then◌else◌}
+use Rattle.std.specs.Prelude.{◌≡◌, ◌≤◌, ◌+◌, ◌-◌, ◌==◌, ◌&&◌, ◌||◌, if◌then◌else◌}
 use Rattle.xe_base.specs.Calm.{Calm}
 use Rattle.xe_base.specs.Registers.{next_rip}
 use Rattle.xe_flags.specs.Status.{status_of}
@@ -62,3 +62,8 @@ pub record EndsElement (insn : Insn) (old : Cpu) (f : Finish) : Type 0 where
   pub next : f.cpu.rip ≡ (if f.more then old.rip else next_rip old insn.len)
   pub repeats : f.more ≡ true → is_repeated insn ≡ true
   pub retire : f.retire ≡ 0
+
+-- While it goes on, elements are left, one less than before. So a repeated instruction takes at most as many steps as its count says.
+pub record CountsDown (insn : Insn) (old : Cpu) (f : Finish) : Type 0 where
+  pub left : f.more ≡ true → 1 ≤ count insn f.cpu
+  pub less : f.more ≡ true → count insn f.cpu + 1 ≡ count insn old

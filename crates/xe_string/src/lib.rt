@@ -17,5 +17,7 @@ mod rows;
 mod tests;
 mod transfer;
 
-pub use laws::{rows_change_states_calmly, rows_keep_states_valid, rows_take_little};
+pub use laws::{
+    rows_change_states_calmly, rows_count_down, rows_keep_states_valid, rows_take_little,
+};
 pub use rows::{exec, exec_into, is_row};

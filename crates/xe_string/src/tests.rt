@@ -2,7 +2,10 @@
 
 ghost use Rattle.std.specs.Prelude.{◌≤◌, length, None};
 
-use crate::{exec, is_row, rows_change_states_calmly, rows_keep_states_valid, rows_take_little};
+use crate::{
+    exec, is_row, rows_change_states_calmly, rows_count_down, rows_keep_states_valid,
+    rows_take_little,
+};
 use std::alloc::Global;
 use std::process::Abort;
 use std::test::Fail;
@@ -76,6 +79,7 @@ fn registers(flags: u64) -> Cpu {
 fn does_elements(rt: HostRuntime) {
     rows_change_states_calmly();
     rows_keep_states_valid();
+    rows_count_down();
     rows_take_little();
     let cpu = registers(2);
     // REP MOVSB: two elements are left.
