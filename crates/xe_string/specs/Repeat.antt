@@ -50,6 +50,7 @@ after_element op insn before cpu = if is_repeated insn then counted op insn cpu 
 abbrev pub is_over : Insn → Cpu → Bool
 is_over insn cpu = is_repeated insn && count insn cpu == 0
 
+-- the whole of a step
 abbrev pub repeated : StringOp → Insn → Cpu → Tree Finish
 repeated op insn cpu =
     if is_over insn cpu then ends insn cpu
