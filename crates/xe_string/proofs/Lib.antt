@@ -1,0 +1,5 @@
+pub mod ElementLaws
+pub mod CalmRows
+pub mod BoundRows
+pub mod TestLaws
+pub mod CountRows
