@@ -1,0 +1,4 @@
+pub mod Plain
+pub mod Port
+pub mod Msr
+pub mod Cpuid
