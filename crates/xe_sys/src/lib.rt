@@ -1,0 +1,17 @@
+//! Ports, control registers, descriptor table registers, model-specific registers and CPUID: the rows of
+//! the instruction table that work on the system.
+//!
+//! Each row stands beside its definition: that of `port` in `specs/Port.antt`, and so on.
+#![tactic(auto, using(xe_ctx::proofs::Trees::row_rules))]
+
+mod control;
+mod cpuid;
+pub mod laws;
+mod msr;
+mod plain;
+mod port;
+mod rows;
+mod table;
+
+pub use laws::{rows_change_states_calmly, rows_keep_states_valid, rows_take_little};
+pub use rows::{exec, exec_into, is_row};
