@@ -6,3 +6,6 @@
 
 pub mod descriptor_table;
 pub mod laws;
+mod load;
+mod query;
+mod task;
