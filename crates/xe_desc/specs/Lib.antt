@@ -1,0 +1,4 @@
+pub mod DescriptorTable
+pub mod Load
+pub mod Task
+pub mod Query

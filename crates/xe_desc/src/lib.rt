@@ -1,0 +1,11 @@
+//! Segment registers, descriptor tables, and what programs may ask of descriptors: the rows of the instruction
+//! table that read a descriptor and don't change the flow of control.
+//!
+//! Each row stands beside its definition: that of `load` in `specs/Load.antt`, and so on.
+#![tactic(auto, using(xe_ctx::proofs::Trees::row_rules))]
+
+pub mod descriptor_table;
+pub mod laws;
+mod load;
+mod query;
+mod task;
