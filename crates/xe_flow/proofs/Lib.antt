@@ -1,0 +1,5 @@
+pub mod Cuts
+pub mod Moved
+pub mod Frames
+pub mod CalmRows
+pub mod BoundRows

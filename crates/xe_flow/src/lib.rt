@@ -1,0 +1,16 @@
+//! Stack, frames, flags on the stack, near branches, loops and software interrupts.
+//!
+//! Each row stands beside its definition: that of `branch` in `specs/Branch.antt`, and so on.
+#![tactic(auto, using(xe_ctx::proofs::Trees::row_rules))]
+
+mod branch;
+mod flags;
+mod frame;
+mod interrupt;
+pub mod laws;
+mod repeat;
+mod rows;
+mod stack;
+
+pub use laws::{rows_change_states_calmly, rows_keep_states_valid, rows_take_little};
+pub use rows::{exec, exec_into, is_row};
