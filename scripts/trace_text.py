@@ -10,7 +10,7 @@ CHANGED = GENERAL + SEGMENTS + TABLES + CONTROL
 # The rows of the string instructions, of which a turn can take many elements.
 STRING_ROWS = frozenset("movs cmps stos lods scas ins outs".split())
 # The ends of a step that didn't finish.
-ENDS = frozenset("fault exit event handoff unhandled unbuilt busfault pending diverged".split())
+ENDS = frozenset("fault exit event handoff unhandled busfault pending diverged".split())
 
 HEX = "(0|[1-9a-f][0-9a-f]{0,15})"
 DECIMAL = "(0|[1-9][0-9]*)"
@@ -54,7 +54,6 @@ FORMS = {
     "event": (f"{ROW} (int|int3|into) {HEX} {HEX}", ["row", "kind", "vector", "next"]),
     "handoff": (f"{ROW} (callgate|taskgate|tss|taskreturn|vm86|entry|fetch) {HEX}", ["row", "kind", "value"]),
     "unhandled": ("", []),
-    "unbuilt": (ROW, ["row"]),
     "busfault": (f"{ROW} {ASKED}", ["row", *ACCESS_FIELDS]),
     "pending": (f"{ROW} {ASKED}", ["row", *ACCESS_FIELDS]),
     "badstate": (DECIMAL, ["rule"]),

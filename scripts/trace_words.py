@@ -129,8 +129,6 @@ def line_words(line, scenario_lines):
         return "left to the caller: " + HANDOFFS[fields["kind"]].format(fields["value"])
     if line.kind == "unhandled":
         return "no instruction of the table"
-    if line.kind == "unbuilt":
-        return "an instruction that doesn't run yet"
     if line.kind == "busfault":
         return "the device failed: " + access_words(fields, done=False)
     if line.kind == "pending":
