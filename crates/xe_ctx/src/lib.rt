@@ -29,4 +29,6 @@ pub use report::{Outcome, Report};
 pub use stop::{Diverged, End, Event, EventKind, Finish, Flow, Handoff, Stop};
 
 #[cfg(test)]
+mod fetch_tests;
+#[cfg(test)]
 mod tests;
