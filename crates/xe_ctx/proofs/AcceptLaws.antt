@@ -1,21 +1,13 @@
 use Rattle.std.proofs.Common.{ℕ, zero, suc, ◌≡◌, ◌<◌, ◌≤◌, ◌+◌, ◌-◌, ◌%◌, ◌^◌, List, [], ◌∷◌, length, drop, refl, sym, ◌∙◌, ap, arith, Bool, true, false, if◌then◌else◌, nat_le, Result, Ok, Err}
-use Rattle.std.specs.Prelude.{All, IsOk}
-use Rattle.std.specs.List.{AllByRecursion}
+use Rattle.std.specs.Prelude.{IsOk}
 use Rattle.std.proofs.lemmas.Bool.Decides.{nat_tests}
-use Rattle.std.proofs.lemmas.List.Elements.{All-from_recursion, recursion_from_All, All-drop}
-use Rattle.xe_base.specs.Ram.{Area, in_ram}
+use Rattle.xe_base.specs.Ram.{Area}
 use Rattle.xe_base.specs.State.{pg, is_long, address_bits}
 use Rattle.xe_base.specs.declared.cpu.Cpu.{Cpu}
 use Rattle.xe_walk.proofs.Bounds.{plain-entries}
-use Rattle.xe_walk.proofs.FormatLaws.{are-levels}
-use Rattle.xe_walk.proofs.UsedLaws.{uses_present_entries}
-use Rattle.xe_walk.specs.Entry.{are_ram as entry_ram}
-use Rattle.xe_walk.specs.Format.{IsLevel, levels_of, pointers_of}
-use Rattle.xe_walk.specs.Laws.{AreUsable}
-use Rattle.xe_walk.specs.Rights.{limiting}
+use Rattle.xe_walk.specs.Format.{pointers_of}
 use Rattle.xe_walk.specs.Walk.{Reached, walk, entries}
 use Rattle.xe_walk.specs.declared.entry.Used.{Used}
-use Rattle.xe_walk.specs.declared.format.Level.{Level}
 use Rattle.xe_walk.specs.declared.rights.Kind.{Kind}
 use Rattle.xe_walk.specs.declared.walk.WalkStop.{WalkStop}
 use Rattle.xe_ctx.specs.Accept.{accessed, code_pieces}

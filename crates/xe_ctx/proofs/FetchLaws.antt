@@ -1,11 +1,10 @@
-use Rattle.std.proofs.Common.{ℕ, zero, suc, ◌≡◌, ◌<◌, ◌≤◌, ◌+◌, List, [], ◌∷◌, ◌++◌, length, take, drop, get_or, refl, sym, ap, ◌∙◌, arith, Result, Ok, Err, nat_lt, true, false, length-append, append_assoc}
-use Rattle.std.proofs.lemmas.Bool.Decides.{nat_tests}
+use Rattle.std.proofs.Common.{ℕ, zero, suc, ◌≡◌, ◌<◌, ◌≤◌, ◌+◌, List, [], ◌∷◌, ◌++◌, length, take, drop, get_or, refl, sym, ap, ◌∙◌, arith, Result, Ok, Err, length-append, append_assoc}
 use Rattle.std.proofs.lemmas.List.{take_more, take_all, length-take, append-nil}
 use Rattle.std.proofs.lemmas.Grind.{common_steps}
 use Rattle.xe_base.specs.Ram.{Area, byte_of, bytes_of}
 use Rattle.xe_base.proofs.Ram.{length-bytes}
 use Rattle.xe_ctx.specs.Ending.{Ending, stop_of, stopped}
-use Rattle.xe_ctx.specs.Fetch.{Avail, avail, avail_from, before, byte_at, code_byte, fetch_fault, IsRun}
+use Rattle.xe_ctx.specs.Fetch.{Avail, avail, avail_from, before, code_byte, fetch_fault, IsRun}
 use Rattle.xe_ctx.specs.State.{State}
 use Rattle.xe_ctx.specs.declared.stop.Stop.{Stop}
 
@@ -120,9 +119,6 @@ run-read s code new bytes i pa n k l is r e b =
     let len : length new ≡ length code + n = ap length all ∙ length-append code (bytes_of s.ram pa n) ∙ ap (λ m. length code + m) (length-bytes s.ram pa n) in
     rw len (all ∙ run-taken s code pa n (rw k at l) is (rw k at r))
 
-pub run-longer : (ram : List Area) (code new bytes : List ℕ) (pa n : ℕ) → 0 < n → new ≡ code ++ bytes → bytes ≡ bytes_of ram pa n → length code < length new
-run-longer ram code new bytes pa n h e b = omega (arith, ap length e, length-append code bytes, ap length b, length-bytes ram pa n)
-
 -- ---- the end of what can be had
 
 told-err : (r : Result ℕ Ending) (x : Stop) → Err x ≡ stopped r → (e : Ending) × (r ≡ Err e) × (x ≡ stop_of e)
@@ -147,16 +143,3 @@ code-full s code l is =
     let a = ends_full s (omega arith) in
     let count = a.count in
     (is ∙ take_all (length code) (avail s).bytes (omega arith), ap stop_of (sym a.why))
-
--- one byte of them, or why it is missing
-pub byte-missing : (s : State) (code : List ℕ) (i : ℕ) (x : Stop) → length code ≤ i → code ≡ (avail s).bytes → x ≡ stop_of (avail s).reason → Err x ≡ byte_at (avail s) i
-byte-missing s code i x l is e =
-    let t : nat_lt i (length (avail s).bytes) ≡ false = (let m : length (avail s).bytes ≤ i = omega (arith, ap length is) in grind (arith, nat_tests)) in
-    rw (t, e) refl
-
-pub code-at : (s : State) (code : List ℕ) (i : ℕ) → i < length code → code ≡ take (length code) (avail s).bytes → Ok (get_or code i 0) ≡ byte_at (avail s) i
-code-at s code i l is =
-    let f = taken-fits _ _ is in
-    let t : nat_lt i (length (avail s).bytes) ≡ true = (let m : i < length (avail s).bytes = omega arith in grind (arith, nat_tests)) in
-    let e : get_or code i 0 ≡ get_or (avail s).bytes i 0 = ap (λ xs. get_or xs i 0) is ∙ grind (arith, common_steps) in
-    rw (t, e) refl

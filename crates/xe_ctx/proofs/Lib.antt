@@ -19,7 +19,6 @@ pub mod Walks
 pub mod Places
 pub mod Calls
 pub mod Locates
-pub mod Frames
 pub mod NextLaws
 pub mod FinishLaws
 pub mod Cover

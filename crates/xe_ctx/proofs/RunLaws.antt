@@ -40,8 +40,8 @@ placed-plain s la n off = record { each = λ k h. from-walk s (la + k) _ (plain-
 pub placed-page : (s : State) (la : ℕ) (r : Reached) → walk s.ram s.cpu la fetch_kind ≡ Ok r → IsPlaced s la r.pa (4096 - la % 4096)
 placed-page s la r e = record {
   each = λ k h.
-    let t = translates_pages_together s.ram s.cpu la k fetch_kind (omega arith) in
-    from-walk s (la + k) (record { pa = r.pa + k; used = r.used }) (rw e at t.0);
+      let t = translates_pages_together s.ram s.cpu la k fetch_kind (omega arith) in
+      from-walk s (la + k) (record { pa = r.pa + k; used = r.used }) (rw e at t.0);
 }
 
 -- ---- a run
@@ -81,7 +81,7 @@ module _ (s : State) (i la room : ℕ) (may : MayFetch s.cpu i la room) where
     run-is gap len h m g short = record {
       ram = record { each = λ k l. g.before (pa + k) (omega arith) (omega arith) };
       bytes = λ k l.
-        let here : in_ram s.ram (pa + k) ≡ true = g.before (pa + k) (omega arith) (omega arith) in
-        let q : fetched_at s (pa + k) ≡ Ok (byte_of s.ram (pa + k)) = rw here refl in
-        each-from k (omega arith) ∙ placed.each k (omega arith) ∙ q;
+          let here : in_ram s.ram (pa + k) ≡ true = g.before (pa + k) (omega arith) (omega arith) in
+          let q : fetched_at s (pa + k) ≡ Ok (byte_of s.ram (pa + k)) = rw here refl in
+          each-from k (omega arith) ∙ placed.each k (omega arith) ∙ q;
     }

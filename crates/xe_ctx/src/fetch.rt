@@ -203,8 +203,10 @@ impl Machine {
 
 impl<'a, B: Bus, I: Intercepts> Ctx<'a, B, I> {
     /// Fetches all bytes of the instruction at CS:RIP that can be had, at most 15, and answers why the
-    /// next one can't: it is past the limit of CS, a sixteenth byte, or outside RAM. (SDM volume 2,
-    /// "Instruction Format".)
+    /// next one can't: #GP(0) where it is past the limit of CS, not at a canonical address in 64-bit mode, or
+    /// a sixteenth one; #PF, or a hand-off, where its address has no translation as a fetch or an entry of
+    /// the page tables is outside RAM; a hand-off where it is outside RAM itself. (SDM volume 2, "Instruction
+    /// Format"; volume 3, "Limit Checking" and "Linear-Address Translation".)
     pub fn read_code(&mut self) -> Stop
         requires open { IsOpen B.sight self.old }
         requires none { code_of self.old ≡ [] }
@@ -220,8 +222,7 @@ impl<'a, B: Bus, I: Intercepts> Ctx<'a, B, I> {
     }
 
     /// Byte `i` of the instruction at CS:RIP; or, exactly where there are not so many that can be
-    /// had, why the first that is missing can't: it is past the limit of CS, a sixteenth byte, or
-    /// outside RAM. (SDM volume 2, "Instruction Format".)
+    /// had, why the first that is missing can't, as [`Ctx::read_code`] answers.
     pub fn fetch(&mut self, i: u8) -> Result<u8, Stop>
         requires open { IsOpen B.sight self.old }
         requires small { i ≤ 14 }
@@ -243,7 +244,8 @@ impl<'a, B: Bus, I: Intercepts> Ctx<'a, B, I> {
         Ok(self.code.as_slice()[i as usize])
     }
 
-    /// The instruction is the first `len` bytes that were fetched.
+    /// The instruction is the first `len` bytes that were fetched: their pages are marked as accessed, in the
+    /// RAM as the step sees it. Without paging nothing changes. (SDM volume 3, "Accessed and Dirty Flags".)
     pub fn accept(&mut self, len: u8)
         requires open { IsOpen B.sight self.old }
         requires fetched { len ≤ fetched_of self.old }
