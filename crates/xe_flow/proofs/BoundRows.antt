@@ -1,4 +1,4 @@
-use Rattle.std.proofs.Common.{ℕ, ◌≡◌, ◌≤◌, ◌<◌, ◌+◌, ◌-◌, ◌*◌, ◌%◌, ◌==◌, Bool, true, false, zero, suc, Option, Some, None, Result, Ok, Err, arith, lit≤, if◌then◌else◌}
+use Rattle.std.proofs.Common.{ℕ, ◌<◌, ◌+◌, ◌-◌, ◌*◌, ◌==◌, Bool, zero, suc, Result, Ok, Err, arith, lit≤}
 use Rattle.xe_base.specs.declared.access.Fault.{Fault}
 use Rattle.xe_base.specs.declared.cpu.Cpu.{Cpu}
 use Rattle.xe_opmap.specs.declared.insn.Insn.{Insn}
@@ -10,17 +10,14 @@ use Rattle.xe_flags.specs.Status.{status_of}
 use Rattle.xe_ctx.specs.declared.stop.EventKind.TheVariants.{Into}
 use Rattle.xe_ctx.specs.Bounds.{TakesAtMost}
 use Rattle.xe_ctx.specs.Operand.{IsOf, is_some, ends, operand_of, read_operand}
-use Rattle.xe_ctx.specs.Stack.{stack_load, push}
-use Rattle.xe_ctx.specs.Tree.{Tree, ◌>>=◌, give, load, probe, point}
+use Rattle.xe_ctx.specs.Tree.{give, load, probe, point}
 use Rattle.xe_base.specs.declared.segment.SegName.TheVariants.{Ss}
-use Rattle.xe_ctx.specs.declared.stop.Finish.{Finish}
 use Rattle.xe_ctx.proofs.BoundLaws.{takes_more, takes_then, takes_if}
 use Rattle.xe_ctx.proofs.RowBounds.{Small, small-of, read, write, takes_protection, takes_stack_load, takes_push}
-use Rattle.xe_flow.specs.Branch.{or_fault, can_go_to, near_target, destination, jump_if, jcc_row, jmp_row, call_row, ret_row}
+use Rattle.xe_flow.specs.Branch.{or_fault, can_go_to, near_target, destination, jump_if, jmp_row, call_row, ret_row}
 use Rattle.xe_flow.specs.Flags.{pushf_row, popf_row, cli_row, sti_row}
 use Rattle.xe_flow.specs.Frame.{nesting, copy_pointer, copy_pointers, nest, enter_row, leave_row}
 use Rattle.xe_flow.specs.Interrupt.{interrupts, overflow, int_row, into_row}
-use Rattle.xe_flow.specs.Repeat.{loop_row, jcxz_row}
 use Rattle.xe_flow.specs.Rows.{row_at, or_undefined, row_of}
 use Rattle.xe_flow.specs.Stack.{is_immediate, stack_operand, pushed_value, push_row, pop_row, pushseg_row, push_pair, pusha_row, pop_to, pop_pair, popa_row}
 

@@ -1,8 +1,8 @@
-use Rattle.std.proofs.Common.{ℕ, ◌≡◌, ◌≤◌, ◌<◌, ◌+◌, ◌-◌, ◌*◌, ◌%◌, ◌^◌, ◌==◌, ◌&&◌, Bool, true, false, not, nat_lt, zero, suc, refl, ap, subst, sym, ◌∙◌, arith, lit≤, bit_and, Option, Some, None, Result, Ok, Err, IfOk, if◌then◌else◌}
+use Rattle.std.proofs.Common.{ℕ, ◌≡◌, ◌≤◌, ◌<◌, ◌+◌, ◌-◌, ◌*◌, ◌%◌, ◌^◌, ◌==◌, Bool, true, false, nat_lt, zero, suc, refl, ap, sym, ◌∙◌, arith, lit≤, bit_and, Option, Some, None, Result, Ok, Err, IfOk, if◌then◌else◌}
 use Rattle.std.proofs.lemmas.Nat.{and_or_apart, and_assoc}
 use Rattle.std.specs.Int.Bits.{and_zero_r}
-use Rattle.xe_base.specs.Calm.{Calm, fixed_flags}
-use Rattle.xe_base.specs.State.{Valid, is_long, seg_db, code_size_of}
+use Rattle.xe_base.specs.Calm.{fixed_flags}
+use Rattle.xe_base.specs.State.{Valid, is_long, seg_db}
 use Rattle.xe_base.specs.declared.cpu.CodeSize.TheVariants.{B16, B32, B64}
 use Rattle.xe_base.specs.declared.cpu.Cpu.{Cpu}
 use Rattle.xe_base.proofs.CalmLaws.{calm_keeps_valid}
@@ -17,17 +17,17 @@ use Rattle.xe_ctx.specs.Is.{Sight, Is}
 use Rattle.xe_ctx.specs.Operand.{IsOf, ends, ends_with}
 use Rattle.xe_ctx.specs.Plain.{EndsPlainly}
 use Rattle.xe_ctx.specs.Runs.{finished}
-use Rattle.xe_ctx.specs.Stack.{push, released, with_stack_pointer}
-use Rattle.xe_ctx.specs.Tree.{Tree, ◌>>=◌, store}
+use Rattle.xe_ctx.specs.Stack.{push, released}
+use Rattle.xe_ctx.specs.Tree.{◌>>=◌, store}
 use Rattle.xe_ctx.specs.declared.stop.End.{End}
 use Rattle.xe_ctx.specs.declared.stop.EventKind.TheVariants.{Into}
 use Rattle.xe_ctx.specs.declared.stop.Finish.{Finish}
 use Rattle.xe_ctx.specs.declared.stop.Stop.{Stop}
-use Rattle.xe_ctx.proofs.FinishLaws.{each_any, each_then, each_implies, gives_of}
+use Rattle.xe_ctx.proofs.FinishLaws.{each_then, each_implies, gives_of}
 use Rattle.xe_ctx.proofs.Tame.{Tame, tame_same, tame_flags, tame_register, tame_operand, plain_end, asked_then, each_if}
-use Rattle.xe_flow.specs.Branch.{near, near_target, jumps_to, jump_if, jcc_row, jmp_row, call_row, ret_row}
+use Rattle.xe_flow.specs.Branch.{near, jumps_to, jump_if, jcc_row, jmp_row, call_row, ret_row}
 use Rattle.xe_flow.specs.Calmly.{EndsCalmly}
-use Rattle.xe_flow.specs.Flags.{popf_mask, where_, is_io_level, common_flags, flags_by_popf, pushf_row, popf_row, with_interrupts, cli_row, sti_retire, sti_row}
+use Rattle.xe_flow.specs.Flags.{popf_mask, mask_where, is_io_level, common_flags, interrupt_flag, io_privilege, high_flags, flags_by_popf, pushf_row, popf_row, with_interrupts, cli_row, sti_row}
 use Rattle.xe_flow.specs.Frame.{copy_pointer, copy_pointers, nest, enter_row, leave_row}
 use Rattle.xe_flow.specs.Interrupt.{interrupts, overflow, int_row, into_row}
 use Rattle.xe_flow.specs.Repeat.{loop_row, jcxz_row}
@@ -50,7 +50,7 @@ fixed_interrupts flags on =
 
 -- nor are those that POPF writes, whichever they are
 abbrev mask_at : Bool → Bool → Bool → ℕ
-mask_at a b c = common_flags + where_ a 0x200 + where_ b 0x3000 + where_ c 0x240000
+mask_at a b c = common_flags + mask_where a interrupt_flag + mask_where b io_privilege + mask_where c high_flags
 
 mask_apart : (a b c : Bool) → bit_and (mask_at a b c) (2 ^ 64 - 1 - 0x247FD5) ≡ 0
 mask_apart true true true = refl

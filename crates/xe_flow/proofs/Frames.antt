@@ -1,4 +1,4 @@
-use Rattle.std.proofs.Common.{ℕ, suc, ◌≡◌, ◌+◌, ◌-◌, ◌<◌, ◌≤◌, Result, Ok, Err, arith, refl, subst, sym}
+use Rattle.std.proofs.Common.{ℕ, suc, ◌≡◌, ◌+◌, ◌-◌, ◌<◌, ◌≤◌, Result, Ok, Err, arith, subst}
 use Rattle.xe_base.specs.declared.cpu.Cpu.{Cpu}
 use Rattle.xe_ctx.specs.Is.{Sight, Is}
 use Rattle.xe_ctx.specs.declared.stop.Stop.{Stop}

@@ -1,10 +1,10 @@
-use Rattle.std.proofs.Common.{ℕ, ◌≡◌, ap, subst, sym, refl}
+use Rattle.std.proofs.Common.{ℕ, ◌≡◌, ap, subst, sym}
 use Rattle.xe_base.specs.State.{code_size_of}
 use Rattle.xe_base.specs.declared.cpu.Cpu.{Cpu}
 use Rattle.xe_opmap.specs.Valid.{IsInsn}
 use Rattle.xe_opmap.specs.declared.insn.Insn.{Insn}
 use Rattle.xe_ctx.specs.Operand.{IsOf}
-use Rattle.xe_ctx.specs.Stack.{stack_size, with_stack_pointer}
+use Rattle.xe_ctx.specs.Stack.{with_stack_pointer}
 use Rattle.xe_ctx.proofs.Tame.{Tame, tame_same, tame_register}
 
 -- the registers with another stack pointer

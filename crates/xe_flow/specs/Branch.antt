@@ -1,8 +1,7 @@
 use Rattle.std.specs.Prelude.{◌+◌, ◌*◌, ◌%◌, ◌^◌, Result, Ok, Err, if◌then◌else◌}
-use Rattle.xe_ctx.specs.Definition.{ℕ, Bool, false, Option, Some, None, Fault, Cpu, Insn, Tree, ◌>>=◌, give, fault, operand_of, read_operand, ends}
+use Rattle.xe_ctx.specs.Definition.{ℕ, Bool, false, Fault, Cpu, Insn, Tree, ◌>>=◌, give, fault, operand_of, read_operand, ends}
 use Rattle.xe_base.specs.Registers.{next_rip}
 use Rattle.xe_flags.specs.Conditions.{condition}
-use Rattle.xe_modrm.specs.declared.part.ModRm.{ModRm}
 use Rattle.xe_seg.specs.Targets.{target}
 use Rattle.xe_ctx.specs.Operand.{is_some}
 use Rattle.xe_ctx.specs.Stack.{released, stack_load, push}

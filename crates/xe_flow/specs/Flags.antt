@@ -1,5 +1,5 @@
 use Rattle.std.specs.Prelude.{◌+◌, ◌-◌, ◌^◌, ◌==◌, nat_le, bit_and, bit_or, if◌then◌else◌}
-use Rattle.xe_ctx.specs.Definition.{ℕ, Bool, true, false, not, nat_lt, Cpu, Insn, Tree, ◌>>=◌, give, point, ends, ends_with}
+use Rattle.xe_ctx.specs.Definition.{ℕ, Bool, true, false, nat_lt, Cpu, Insn, Tree, ◌>>=◌, give, point, ends, ends_with}
 use Rattle.xe_base.specs.Bits.{bit}
 use Rattle.xe_icpt.specs.declared.point.Point.TheVariants.{Pushf, Popf}
 use Rattle.xe_flags.specs.Status.{at_place}
@@ -28,13 +28,23 @@ is_io_level cpu = nat_le cpu.cpl (iopl cpu)
 abbrev pub common_flags : ℕ
 common_flags = 0x4DD5
 
--- mask where it holds
-abbrev pub where_ : Bool → ℕ → ℕ
-where_ holds mask = if holds then mask else 0
+-- IF; IOPL, of two bits; AC and ID
+abbrev pub interrupt_flag : ℕ
+interrupt_flag = 0x200
+
+abbrev pub io_privilege : ℕ
+io_privilege = 0x3000
+
+abbrev pub high_flags : ℕ
+high_flags = 0x240000
+
+-- a mask where it holds, else none
+abbrev pub mask_where : Bool → ℕ → ℕ
+mask_where holds mask = if holds then mask else 0
 
 -- the flags that POPF of n bytes writes, as do other loads of all flags: IF up to IOPL, IOPL at level 0, and AC and ID where there are more than two bytes
 abbrev pub popf_mask : Cpu → ℕ → ℕ
-popf_mask cpu n = common_flags + where_ (is_io_level cpu) 0x200 + where_ (cpu.cpl == 0) 0x3000 + where_ (nat_lt 2 n) 0x240000
+popf_mask cpu n = common_flags + mask_where (is_io_level cpu) interrupt_flag + mask_where (cpu.cpl == 0) io_privilege + mask_where (nat_lt 2 n) high_flags
 
 -- the flags after n bytes of them were loaded, with the level and the IOPL from before
 abbrev pub flags_by_popf : Cpu → ℕ → ℕ → ℕ

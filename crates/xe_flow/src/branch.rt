@@ -130,9 +130,9 @@ pub fn call<B: Bus, I: Intercepts>(
 {
     let offset = destination(insn, ctx)?;
     let target = near(insn, cpu, offset);
-    let next = cpu.next_rip(insn.len);
+    let back = cpu.next_rip(insn.len);
     can_go_to(ctx, target)?;
-    push_number(ctx, cpu, insn.opsize, next)?;
+    push_number(ctx, cpu, insn.opsize, back)?;
     Ok(jump(cpu, target))
 }
 

@@ -2,7 +2,7 @@
 
 ghost use Rattle.std.specs.Prelude.{◌≡◌, ◌≤◌};
 ghost use Rattle.xe_ctx.specs.Contract.{ℕ, IsReady, Finishes, cpu_of};
-ghost use Rattle.xe_flow.specs.Flags.{pushf_row, is_io_level, where_, popf_mask, flags_by_popf, popf_row, with_interrupts, cli_row, sti_retire, sti_row};
+ghost use Rattle.xe_flow.specs.Flags.{pushf_row, is_io_level, mask_where, popf_mask, flags_by_popf, popf_row, with_interrupts, cli_row, sti_retire, sti_row};
 
 use xe_base::Cpu;
 use xe_ctx::operand::done;
@@ -45,7 +45,7 @@ fn is_io_level(cpu: &Cpu) -> bool
 
 /// A mask where it holds, else none.
 fn mask_where(holds: bool, mask: u64) -> u64
-    ensures value { result ≡ where_ holds mask }
+    ensures value { result ≡ mask_where holds mask }
     ensures bound { result ≤ mask }
 {
     if holds { mask } else { 0 }

@@ -11,6 +11,8 @@ pub mod laws;
 mod repeat;
 mod rows;
 mod stack;
+#[cfg(test)]
+mod tests;
 
 pub use laws::{rows_change_states_calmly, rows_keep_states_valid, rows_take_little};
 pub use rows::{exec, exec_into, is_row};

@@ -1,4 +1,4 @@
-use Rattle.std.proofs.Common.{◌≡◌, ◌+◌, ◌*◌, ◌≤◌}
+use Rattle.std.proofs.Common.{◌+◌, ◌*◌, ◌≤◌}
 use Rattle.xe_ctx.specs.View.{view, SameHandles, IsOpen, accesses_left, bytes_left}
 use Rattle.xe_flow.proofs.Frames.{Copies}
 use Rattle.xe_flow.proofs.frame.copy_pointers.Given as goal
