@@ -1,1 +1,6 @@
 pub mod TableBounds
+pub mod SegmentRules
+pub mod LoadRows
+pub mod CalmRows
+pub mod BoundRows
+pub mod TestLaws

@@ -1,5 +1,5 @@
 use Rattle.std.specs.Prelude.{◌+◌, ◌*◌, ◌%◌, ◌^◌, ◌==◌, ◌&&◌, if◌then◌else◌, Result, Ok, Err}
-use Rattle.xe_ctx.specs.Definition.{ℕ, Bool, true, false, not, Option, Some, None, Fault, Cpu, Insn, Tree, ◌>>=◌, give, fault, load, operand_of, reg_of, writes, read_operand, write_operand, ends}
+use Rattle.xe_ctx.specs.Definition.{ℕ, Bool, false, not, Option, Some, None, Fault, Cpu, Insn, Tree, ◌>>=◌, give, fault, load, operand_of, reg_of, writes, read_operand, write_operand, ends}
 use Rattle.xe_base.specs.Exceptions.{plain_exception, invalid_opcode}
 use Rattle.xe_base.specs.Registers.{next_rip, segment}
 use Rattle.xe_base.specs.State.{mode_of}

@@ -1,4 +1,4 @@
-use Rattle.std.specs.Prelude.{◌+◌, ◌-◌, ◌*◌, ◌/◌, ◌%◌, ◌^◌, ◌==◌, ◌&&◌, ◌||◌, nat_le, bit_and, if◌then◌else◌}
+use Rattle.std.specs.Prelude.{◌+◌, ◌-◌, ◌/◌, ◌^◌, ◌==◌, ◌&&◌, ◌||◌, nat_le, bit_and, if◌then◌else◌}
 use Rattle.xe_ctx.specs.Definition.{ℕ, Bool, true, false, not, nat_lt, Option, Some, None, Cpu, Insn, Tree, ◌>>=◌, give, operand_of, reg_of, reads, writes, read_operand, read_for_write, write_operand, ends}
 use Rattle.xe_base.specs.State.{lma}
 use Rattle.xe_flags.specs.Status.{status_of, with_status}

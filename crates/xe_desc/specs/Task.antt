@@ -1,6 +1,5 @@
 use Rattle.std.specs.Prelude.{◌+◌, ◌-◌, ◌*◌, ◌/◌, ◌%◌, ◌^◌, ◌==◌, ◌&&◌, ◌||◌, if◌then◌else◌}
 use Rattle.xe_ctx.specs.Definition.{ℕ, Bool, not, Cpu, Insn, Tree, ◌>>=◌, give, fault, load_sys, store_sys, point, operand_of, read_operand, ends}
-use Rattle.xe_base.specs.Bits.{bit}
 use Rattle.xe_base.specs.Exceptions.{plain_exception, invalid_opcode, general_protection, segment_not_present}
 use Rattle.xe_base.specs.State.{mode_of, is_long, is_base, lma}
 use Rattle.xe_base.specs.declared.segment.Seg.{Seg}

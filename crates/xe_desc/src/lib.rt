@@ -8,4 +8,13 @@ pub mod descriptor_table;
 pub mod laws;
 mod load;
 mod query;
+mod rows;
 mod task;
+#[cfg(test)]
+mod tests;
+
+pub use laws::{
+    descriptors_take_little, queries_change_states_calmly, rows_change_segments_at_most,
+    rows_keep_states_valid, rows_take_little,
+};
+pub use rows::{exec, exec_into, is_row};

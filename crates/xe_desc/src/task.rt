@@ -176,11 +176,7 @@ fn system_segment(sel: u16, raw: u128, attr: u16) -> Seg
 
 /// Loads LDTR by a descriptor of an LDT.
 #[tactic(auto, using(xe_ctx::proofs::Trees::row_rules), unfolding(crate::specs::Task::load_ldt))]
-fn load_ldt<B: Bus, I: Intercepts>(
-    ctx: &mut Ctx<B, I>,
-    cpu: &mut Cpu,
-    sel: u16,
-) -> Result<(), Stop>
+fn load_ldt<B: Bus, I: Intercepts>(ctx: &mut Ctx<B, I>, cpu: &mut Cpu, sel: u16) -> Result<(), Stop>
     requires ready { HasLeft B.sight ctx.old 5 10 }
     requires draft { cpu.old ≡ cpu_of ctx.old }
     ensures { DraftsWithin B.sight I.hits (load_ldt cpu.old sel) ctx.old result cpu.new ctx.new 5 10 }
@@ -257,11 +253,7 @@ fn busy_byte(desc: &Descriptor) -> u8
 
 /// Loads TR by the descriptor of an available TSS, which becomes busy.
 #[tactic(auto, using(xe_ctx::proofs::Trees::row_rules), unfolding(crate::specs::Task::load_tss))]
-fn load_tss<B: Bus, I: Intercepts>(
-    ctx: &mut Ctx<B, I>,
-    cpu: &mut Cpu,
-    sel: u16,
-) -> Result<(), Stop>
+fn load_tss<B: Bus, I: Intercepts>(ctx: &mut Ctx<B, I>, cpu: &mut Cpu, sel: u16) -> Result<(), Stop>
     requires ready { HasLeft B.sight ctx.old 6 21 }
     requires draft { cpu.old ≡ cpu_of ctx.old }
     ensures { DraftsWithin B.sight I.hits (load_tss cpu.old sel) ctx.old result cpu.new ctx.new 6 21 }
