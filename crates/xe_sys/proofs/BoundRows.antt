@@ -20,7 +20,7 @@ use Rattle.xe_sys.specs.Control.{movcr_row, movcr_at, movcr_on, read_control, wr
 use Rattle.xe_sys.specs.Cpuid.{cpuid_row}
 use Rattle.xe_sys.specs.Msr.{device_msr, msr_value, msr_written, rdmsr_row, wrmsr_row, rdtsc_row}
 use Rattle.xe_sys.specs.Plain.{hlt_row, pause_row, invd_row, wbinvd_row, invlpg_at, invlpg_row, swapgs_row}
-use Rattle.xe_sys.specs.Port.{in_row, out_row}
+use Rattle.xe_sys.specs.Port.{port_checked, in_row, out_row}
 use Rattle.xe_sys.specs.Rows.{row_at, or_undefined, row_of}
 use Rattle.xe_sys.specs.Table.{base_size, store_at, store_row, table_in_memory, load_at, load_row}
 use Rattle.xe_sys.specs.declared.control.ControlRegister.{ControlRegister}
@@ -64,6 +64,10 @@ pointed : {T : Type 0} (p : Point) (n a b : ℕ) (f : Unit {0} → Tree T) → (
 pointed p n a b f rest = takes_then f n a b rest 1 0 0 _ (takes_point p)
 
 -- ---- parts of rows
+
+takes_port : (insn : Insn) (cpu : Cpu) (input : Bool) → TakesAtMost 3 4 20 (port_checked insn cpu input)
+unfolding port_checked
+takes_port insn cpu input = takes_then _ 1 0 0 (λ u. takes_point _) 2 4 20 _ (takes_port_allowed cpu _ _)
 
 takes_device_msr : (cpu : Cpu) (a : Access) → TakesAtMost 1 1 0 (device_msr cpu a)
 unfolding device_msr
@@ -112,10 +116,10 @@ takes_table insn cpu seg offset = takes_then _ 1 4 10 (λ limit. takes_then _ 0 
 
 module _ (insn : Insn) (cpu : Cpu) (of_ : IsOf cpu insn) where
   most_in : TakesAtMost 64 6 30 (in_row insn cpu)
-  most_in = takes_then _ 62 2 10 (λ u. pointed _ 61 2 10 _ (λ v. takes_then _ 60 1 10 (λ a. tt) 1 1 0 _ (takes_device _))) 2 4 20 _ (takes_port_allowed cpu _ _)
+  most_in = takes_then _ 61 2 10 (λ u. takes_then _ 60 1 10 (λ a. tt) 1 1 0 _ (takes_device _)) 3 4 20 _ (takes_port insn cpu _)
 
   most_out : TakesAtMost 64 6 30 (out_row insn cpu)
-  most_out = takes_then _ 62 2 10 (λ u. pointed _ 61 2 10 _ (λ v. takes_then _ 60 1 10 (λ a. tt) 1 1 0 _ (takes_device _))) 2 4 20 _ (takes_port_allowed cpu _ _)
+  most_out = takes_then _ 61 2 10 (λ u. takes_then _ 60 1 10 (λ a. tt) 1 1 0 _ (takes_device _)) 3 4 20 _ (takes_port insn cpu _)
 
   most_hlt : TakesAtMost 64 6 30 (hlt_row insn cpu)
   most_hlt = checked cpu _ 64 6 30 _ (λ u. pointed _ 63 6 30 _ (λ v. tt))

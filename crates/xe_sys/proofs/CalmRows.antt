@@ -37,10 +37,10 @@ module _ (insn : Insn) (cpu : Cpu) where
   tame_leaf first second = tame_register _ _ _ _ (tame_register _ _ _ _ (tame_register _ _ _ _ (tame_register _ _ _ _ (tame_same cpu))))
 
   calm_in : EachGives (EndsPlainly insn cpu) (in_row insn cpu)
-  calm_in = asked_then (EndsPlainly insn cpu) _ _ (λ u. asked_then (EndsPlainly insn cpu) _ _ (λ v. asked_then (EndsPlainly insn cpu) _ _ (λ a. plain_end insn cpu _ (tame_register _ _ _ _ (tame_same cpu)))))
+  calm_in = asked_then (EndsPlainly insn cpu) _ _ (λ u. asked_then (EndsPlainly insn cpu) _ _ (λ a. plain_end insn cpu _ (tame_register _ _ _ _ (tame_same cpu))))
 
   calm_out : EachGives (EndsPlainly insn cpu) (out_row insn cpu)
-  calm_out = asked_then (EndsPlainly insn cpu) _ _ (λ u. asked_then (EndsPlainly insn cpu) _ _ (λ v. asked_then (EndsPlainly insn cpu) _ _ (λ a. same_end)))
+  calm_out = asked_then (EndsPlainly insn cpu) _ _ (λ u. asked_then (EndsPlainly insn cpu) _ _ (λ a. same_end))
 
   calm_pause : EachGives (EndsPlainly insn cpu) (pause_row insn cpu)
   calm_pause = asked_then (EndsPlainly insn cpu) _ _ (λ u. same_end)
