@@ -1,9 +1,9 @@
-use Rattle.std.proofs.Common.{ℕ, ◌≡◌, ◌-◌, ◌^◌, Bool, true, false, bit_and, bit_or, refl, ap, ◌∙◌, arith, min, max, nat_eq, ◌<◌}
+use Rattle.std.proofs.Common.{ℕ, ◌≡◌, true, false, bit_and, bit_or, refl, ap, ◌∙◌, arith, min, max, nat_eq, ◌<◌}
 use Rattle.std.specs.Int.{bit_at}
 use Rattle.std.specs.Int.Bits.{and_zero_r}
 use Rattle.std.proofs.Math.Nat.{min-zero}
 use Rattle.std.proofs.lemmas.Bool.Decides.{nat_tests}
-use Rattle.std.proofs.lemmas.Nat.{and_assoc, and_or_apart}
+use Rattle.std.proofs.lemmas.Nat.{and_assoc}
 use Rattle.std.proofs.lemmas.Nat.Bits.{bit_at_and, bit_at_or, bit_at-lt}
 use Rattle.xe_base.specs.Bits.{bit}
 

@@ -1,4 +1,4 @@
-use Rattle.std.proofs.Common.{ℕ, ◌≡◌, ◌≤◌, ◌+◌, ◌*◌, arith, ◌^◌, ◌%◌, Bool, true, false, Option, Some, None, lit≤, if◌then◌else◌, ◌==◌}
+use Rattle.std.proofs.Common.{ℕ, ◌+◌, arith, Bool, Option, Some, None, lit≤}
 use Rattle.xe_base.specs.State.{is_long}
 use Rattle.xe_base.specs.declared.access.Access.{Access}
 use Rattle.xe_base.specs.declared.cpu.Cpu.{Cpu}
@@ -10,19 +10,18 @@ use Rattle.xe_opmap.specs.declared.row.Row.TheVariants as row
 use Rattle.xe_ctx.specs.Bounds.{TakesAtMost}
 use Rattle.xe_ctx.specs.Operand.{IsOf, operand_of, reg_of}
 use Rattle.xe_ctx.specs.Privilege.{or_protection}
-use Rattle.xe_ctx.specs.Tree.{Tree, ◌>>=◌, give, fault, load, store, device, point}
+use Rattle.xe_ctx.specs.Tree.{Tree, ◌>>=◌, load, store, device, point}
 use Rattle.xe_ctx.specs.declared.operand.Operand.{Operand}
 use Rattle.xe_ctx.specs.declared.operand.Operand.TheVariants.{Register, Memory}
-use Rattle.xe_ctx.specs.declared.stop.Finish.{Finish}
-use Rattle.xe_ctx.proofs.BoundLaws.{takes_more, takes_then, takes_if}
+use Rattle.xe_ctx.proofs.BoundLaws.{takes_then, takes_if}
 use Rattle.xe_ctx.proofs.RowBounds.{Small, small-2, small-4, small-8, small-of, small-if, read, write, takes_protection, takes_port_allowed}
-use Rattle.xe_sys.specs.Control.{movcr_row, movcr_at, movcr_on, read_control, write_control, control_of, control_written, cr0_written, select_point, changes_selected, smsw_row, word_size, lmsw_row, clts_row}
+use Rattle.xe_sys.specs.Control.{movcr_at, movcr_on, read_control, write_control, control_of, control_written, cr0_written, select_point, changes_selected, smsw_row, word_size, lmsw_row, clts_row}
 use Rattle.xe_sys.specs.Cpuid.{cpuid_row}
 use Rattle.xe_sys.specs.Msr.{device_msr, msr_value, msr_written, rdmsr_row, wrmsr_row, rdtsc_row}
-use Rattle.xe_sys.specs.Plain.{hlt_row, pause_row, invd_row, wbinvd_row, invlpg_at, invlpg_row, swapgs_row}
-use Rattle.xe_sys.specs.Port.{in_row, out_row}
+use Rattle.xe_sys.specs.Plain.{hlt_row, pause_row, invd_row, wbinvd_row, invlpg_at, swapgs_row}
+use Rattle.xe_sys.specs.Port.{port_checked, in_row, out_row}
 use Rattle.xe_sys.specs.Rows.{row_at, or_undefined, row_of}
-use Rattle.xe_sys.specs.Table.{base_size, store_at, store_row, table_in_memory, load_at, load_row}
+use Rattle.xe_sys.specs.Table.{base_size, store_at, table_in_memory, load_at}
 use Rattle.xe_sys.specs.declared.control.ControlRegister.{ControlRegister}
 use Rattle.xe_sys.specs.declared.control.ControlRegister.TheVariants.{Cr0, Cr2, Cr3, Cr4, Cr8}
 use Rattle.xe_sys.specs.declared.msr.KnownMsr.{KnownMsr}
@@ -64,6 +63,10 @@ pointed : {T : Type 0} (p : Point) (n a b : ℕ) (f : Unit {0} → Tree T) → (
 pointed p n a b f rest = takes_then f n a b rest 1 0 0 _ (takes_point p)
 
 -- ---- parts of rows
+
+takes_port : (insn : Insn) (cpu : Cpu) (input : Bool) → TakesAtMost 3 4 20 (port_checked insn cpu input)
+unfolding port_checked
+takes_port insn cpu input = takes_then _ 1 0 0 (λ u. takes_point _) 2 4 20 _ (takes_port_allowed cpu _ _)
 
 takes_device_msr : (cpu : Cpu) (a : Access) → TakesAtMost 1 1 0 (device_msr cpu a)
 unfolding device_msr
@@ -112,10 +115,10 @@ takes_table insn cpu seg offset = takes_then _ 1 4 10 (λ limit. takes_then _ 0 
 
 module _ (insn : Insn) (cpu : Cpu) (of_ : IsOf cpu insn) where
   most_in : TakesAtMost 64 6 30 (in_row insn cpu)
-  most_in = takes_then _ 62 2 10 (λ u. pointed _ 61 2 10 _ (λ v. takes_then _ 60 1 10 (λ a. tt) 1 1 0 _ (takes_device _))) 2 4 20 _ (takes_port_allowed cpu _ _)
+  most_in = takes_then _ 61 2 10 (λ u. takes_then _ 60 1 10 (λ a. tt) 1 1 0 _ (takes_device _)) 3 4 20 _ (takes_port insn cpu _)
 
   most_out : TakesAtMost 64 6 30 (out_row insn cpu)
-  most_out = takes_then _ 62 2 10 (λ u. pointed _ 61 2 10 _ (λ v. takes_then _ 60 1 10 (λ a. tt) 1 1 0 _ (takes_device _))) 2 4 20 _ (takes_port_allowed cpu _ _)
+  most_out = takes_then _ 61 2 10 (λ u. takes_then _ 60 1 10 (λ a. tt) 1 1 0 _ (takes_device _)) 3 4 20 _ (takes_port insn cpu _)
 
   most_hlt : TakesAtMost 64 6 30 (hlt_row insn cpu)
   most_hlt = checked cpu _ 64 6 30 _ (λ u. pointed _ 63 6 30 _ (λ v. tt))

@@ -1,13 +1,11 @@
-use Rattle.std.proofs.Common.{ℕ, ◌≡◌, ◌+◌, ◌-◌, ◌*◌, ◌/◌, ◌%◌, ◌^◌, Bool, true, false, Option, Some, None, refl, if◌then◌else◌}
+use Rattle.std.proofs.Common.{ℕ, ◌≡◌, true, false, refl}
 use Rattle.xe_base.specs.Access.{number_of}
-use Rattle.xe_base.specs.Calm.{Calm}
-use Rattle.xe_base.specs.State.{Valid}
 use Rattle.xe_base.specs.declared.cpu.Cpu.{Cpu}
 use Rattle.xe_opmap.specs.declared.insn.Insn.{Insn}
 use Rattle.xe_opmap.specs.declared.row.Row.{Row}
 use Rattle.xe_opmap.specs.declared.row.Row.TheVariants as row
 use Rattle.xe_ctx.specs.Finishes.{EachGives}
-use Rattle.xe_ctx.specs.Operand.{has_rex, operand_of, ends_with, ends}
+use Rattle.xe_ctx.specs.Operand.{operand_of, ends_with, ends}
 use Rattle.xe_ctx.specs.Plain.{EndsPlainly}
 use Rattle.xe_ctx.specs.declared.operand.Operand.{Operand}
 use Rattle.xe_ctx.specs.declared.operand.Operand.TheVariants.{Register, Memory}
@@ -37,10 +35,10 @@ module _ (insn : Insn) (cpu : Cpu) where
   tame_leaf first second = tame_register _ _ _ _ (tame_register _ _ _ _ (tame_register _ _ _ _ (tame_register _ _ _ _ (tame_same cpu))))
 
   calm_in : EachGives (EndsPlainly insn cpu) (in_row insn cpu)
-  calm_in = asked_then (EndsPlainly insn cpu) _ _ (λ u. asked_then (EndsPlainly insn cpu) _ _ (λ v. asked_then (EndsPlainly insn cpu) _ _ (λ a. plain_end insn cpu _ (tame_register _ _ _ _ (tame_same cpu)))))
+  calm_in = asked_then (EndsPlainly insn cpu) _ _ (λ u. asked_then (EndsPlainly insn cpu) _ _ (λ a. plain_end insn cpu _ (tame_register _ _ _ _ (tame_same cpu))))
 
   calm_out : EachGives (EndsPlainly insn cpu) (out_row insn cpu)
-  calm_out = asked_then (EndsPlainly insn cpu) _ _ (λ u. asked_then (EndsPlainly insn cpu) _ _ (λ v. asked_then (EndsPlainly insn cpu) _ _ (λ a. same_end)))
+  calm_out = asked_then (EndsPlainly insn cpu) _ _ (λ u. asked_then (EndsPlainly insn cpu) _ _ (λ a. same_end))
 
   calm_pause : EachGives (EndsPlainly insn cpu) (pause_row insn cpu)
   calm_pause = asked_then (EndsPlainly insn cpu) _ _ (λ u. same_end)

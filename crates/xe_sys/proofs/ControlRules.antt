@@ -1,17 +1,17 @@
-use Rattle.std.proofs.Common.{ℕ, ◌≡◌, ◌<◌, ◌-◌, ◌^◌, ◌==◌, Bool, true, false, not, ◌&&◌, ◌||◌, nat_lt, nat_le, nat_eq, bit_and, bit_or, refl, ap, ◌∙◌, if◌then◌else◌}
+use Rattle.std.proofs.Common.{ℕ, ◌≡◌, ◌-◌, ◌^◌, ◌==◌, Bool, true, false, not, ◌&&◌, nat_lt, nat_le, nat_eq, bit_and, bit_or, refl, ◌∙◌, if◌then◌else◌}
 use Rattle.std.specs.Int.{bit_at}
 use Rattle.std.proofs.lemmas.Nat.{and_or_apart}
 use Rattle.xe_base.specs.Bits.{bit, only}
-use Rattle.xe_base.specs.State.{Valid, broken, needs, pe, pg, lme, lma, pae, seg_l, seg_db, is_long, level_is_valid, cr0_is_valid, efer_is_valid, code_is_valid, pointer_is_valid}
+use Rattle.xe_base.specs.State.{Valid, broken, needs, pe, pg, lme, lma, pae, seg_l, is_long}
 use Rattle.xe_base.specs.declared.cpu.Cpu.{Cpu}
 use Rattle.xe_ctx.specs.Finishes.{EachGives}
 use Rattle.xe_ctx.proofs.Tame.{asked_then}
-use Rattle.xe_sys.specs.Control.{cr0_of, may_enter_long, has_small_tss, is_cr0_allowed, with_lma, with_cr0, select_point, cr0_written, is_cr4_allowed, control_written, with_status_word, without_ts}
+use Rattle.xe_sys.specs.Control.{cr0_of, has_small_tss, is_cr0_allowed, with_lma, with_cr0, cr0_written, is_cr4_allowed, control_written, with_status_word, without_ts}
 use Rattle.xe_sys.specs.declared.control.ControlRegister.{ControlRegister}
 use Rattle.xe_sys.specs.declared.control.ControlRegister.TheVariants.{Cr0, Cr2, Cr3, Cr4, Cr8}
 use Rattle.xe_sys.proofs.BitLaws.{bit_kept, bit_dropped, bit_added, bit_left, no-bit, bit_joined, and_apart, and_within}
 use Rattle.xe_sys.proofs.Guards.{guarded}
-use Rattle.xe_sys.proofs.StateRules.{left, right, both, Rules, rules_of, valid_by}
+use Rattle.xe_sys.proofs.StateRules.{left, right, both, rules_of, valid_by}
 
 -- ---- tests
 

@@ -6,3 +6,5 @@ pub mod OtherRules
 pub mod CalmRows
 pub mod SoundRows
 pub mod BoundRows
+pub mod LevelRows
+pub mod TestLaws

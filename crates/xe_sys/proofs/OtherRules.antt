@@ -1,25 +1,23 @@
-use Rattle.std.proofs.Common.{ℕ, ◌≡◌, ◌<◌, ◌≤◌, ◌/◌, ◌%◌, ◌-◌, ◌^◌, ◌==◌, Bool, true, false, not, ◌&&◌, ◌||◌, nat_eq, bit_and, bit_or, refl, ◌∙◌, arith, if◌then◌else◌}
-use Rattle.std.proofs.lemmas.Bool.Decides.{nat_tests}
+use Rattle.std.proofs.Common.{ℕ, ◌≡◌, ◌<◌, ◌/◌, ◌%◌, ◌-◌, ◌^◌, ◌==◌, Bool, true, false, not, ◌&&◌, nat_eq, bit_and, bit_or, refl, ◌∙◌, arith, if◌then◌else◌}
 use Rattle.std.proofs.lemmas.Nat.{and_or_apart}
 use Rattle.xe_base.specs.Bits.{bit, only, canonical}
-use Rattle.xe_base.specs.State.{Valid, needs, pg, lme, lma, pae, seg_l, is_long, is_base}
+use Rattle.xe_base.specs.State.{Valid, needs, pg, lme, lma, is_long, is_base}
 use Rattle.xe_base.specs.declared.cpu.Cpu.{Cpu}
 use Rattle.xe_base.specs.declared.segment.SegName.{SegName}
 use Rattle.xe_base.specs.declared.segment.Table.{Table}
 use Rattle.xe_opmap.specs.declared.insn.Insn.{Insn}
 use Rattle.xe_ctx.specs.Finishes.{EachGives}
-use Rattle.xe_ctx.specs.Tree.{Tree, ◌>>=◌, load}
 use Rattle.xe_ctx.proofs.Tame.{asked_then}
-use Rattle.xe_sys.specs.Msr.{is_efer_allowed, with_efer, msr_written, device_msr, msr_write}
+use Rattle.xe_sys.specs.Msr.{is_efer_allowed, with_efer, msr_written}
 use Rattle.xe_sys.specs.Plain.{with_gs_swapped}
-use Rattle.xe_sys.specs.Table.{with_table, kept_base, table_in_memory}
+use Rattle.xe_sys.specs.Table.{with_table, table_in_memory}
 use Rattle.xe_sys.specs.declared.msr.KnownMsr.{KnownMsr}
 use Rattle.xe_sys.specs.declared.msr.KnownMsr.TheVariants.{Efer, FsBase, GsBase, KernelGsBase, OfDevice}
 use Rattle.xe_sys.specs.declared.table.DescriptorTable.{DescriptorTable}
 use Rattle.xe_sys.specs.declared.table.DescriptorTable.TheVariants.{Global, Interrupt}
 use Rattle.xe_sys.proofs.BitLaws.{bit_kept, bit_left, bit_right, no-bit, and_apart}
 use Rattle.xe_sys.proofs.Guards.{guarded}
-use Rattle.xe_sys.proofs.StateRules.{left, right, both, Bases, Rules, rules_of, valid_by}
+use Rattle.xe_sys.proofs.StateRules.{left, right, both, rules_of, valid_by}
 
 -- ---- bases
 

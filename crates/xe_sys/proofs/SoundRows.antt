@@ -1,4 +1,4 @@
-use Rattle.std.proofs.Common.{ℕ, ◌≡◌, ◌<◌, ◌≤◌, ◌-◌, ◌%◌, ◌^◌, ◌==◌, Bool, true, false, not, ◌&&◌, ◌||◌, nat_lt, nat_le, Option, Some, None, Result, Ok, Err, IfOk, refl, lit<, bit_and, bit_or, if◌then◌else◌}
+use Rattle.std.proofs.Common.{ℕ, ◌≡◌, ◌<◌, true, Option, Some, None, Result, Ok, Err, IfOk, refl, lit<}
 use Rattle.xe_base.specs.State.{Valid}
 use Rattle.xe_base.specs.declared.cpu.Cpu.{Cpu}
 use Rattle.xe_opmap.specs.declared.insn.Insn.{Insn}
@@ -7,7 +7,7 @@ use Rattle.xe_opmap.specs.declared.row.Row.TheVariants as row
 use Rattle.xe_base.proofs.CalmLaws.{calm_keeps_valid}
 use Rattle.xe_ctx.specs.Finishes.{EachGives, IsSound}
 use Rattle.xe_ctx.specs.Is.{Sight, Is}
-use Rattle.xe_ctx.specs.Operand.{IsOf, operand_of, reg_of, ends_with, ends}
+use Rattle.xe_ctx.specs.Operand.{IsOf, operand_of, reg_of, ends}
 use Rattle.xe_ctx.specs.Runs.{finished}
 use Rattle.xe_ctx.specs.declared.operand.Operand.{Operand}
 use Rattle.xe_ctx.specs.declared.operand.Operand.TheVariants.{Register, Memory}

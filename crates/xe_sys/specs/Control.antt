@@ -1,4 +1,4 @@
-use Rattle.std.specs.Prelude.{◌-◌, ◌/◌, ◌%◌, ◌^◌, ◌==◌, ◌&&◌, ◌||◌, nat_lt, nat_le, bit_and, bit_or, if◌then◌else◌, Option, Some, None}
+use Rattle.std.specs.Prelude.{◌-◌, ◌%◌, ◌^◌, ◌==◌, ◌&&◌, ◌||◌, nat_lt, nat_le, bit_and, bit_or, if◌then◌else◌, Option, Some, None}
 use Rattle.xe_ctx.specs.Definition.{ℕ, Bool, true, false, not, Cpu, Insn, Tree, ◌>>=◌, fault, give, point, operand_of, reg_of, read_operand, write_operand, reads, writes, ends}
 use Rattle.xe_base.specs.Bits.{bit, only}
 use Rattle.xe_base.specs.Exceptions.{plain_exception, invalid_opcode}

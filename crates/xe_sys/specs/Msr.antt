@@ -1,4 +1,4 @@
-use Rattle.std.specs.Prelude.{◌+◌, ◌-◌, ◌*◌, ◌/◌, ◌%◌, ◌^◌, ◌==◌, ◌&&◌, nat_lt, slice_index, bit_and, bit_or, if◌then◌else◌}
+use Rattle.std.specs.Prelude.{◌+◌, ◌*◌, ◌/◌, ◌%◌, ◌^◌, ◌==◌, ◌&&◌, nat_lt, slice_index, bit_and, bit_or, if◌then◌else◌}
 use Rattle.xe_ctx.specs.Definition.{ℕ, Bool, true, false, not, Cpu, Insn, Tree, ◌>>=◌, give, ax, cx, dx, device, point, writes, ends}
 use Rattle.xe_base.specs.Access.{number_of}
 use Rattle.xe_base.specs.Bits.{bit, only}

@@ -32,19 +32,20 @@ port_read port n = record { space = Port; write = false; address = port; size = 
 abbrev pub port_write : ℕ → ℕ → ℕ → Access
 port_write port n value = record { space = Port; write = true; address = port; size = n; value = value % 2 ^ (8 * n) }
 
--- the program may use the port, and what is intercepted comes before the device is touched
+-- the program may use the port; what is intercepted comes next, before the device is touched
+unfoldable pub port_checked : Insn → Cpu → Bool → Tree (Unit {0})
+port_checked insn cpu input = do
+  _ ← port_allowed cpu (port_of insn cpu) (port_size insn)
+  point (port_point insn cpu input)
+
 abbrev pub in_row : Insn → Cpu → Tree Finish
 in_row insn cpu = do
-  let n = port_size insn
-  _ ← port_allowed cpu (port_of insn cpu) n
-  _ ← point (port_point insn cpu true)
-  a ← device (port_read (port_of insn cpu) n)
-  ends insn (writes insn cpu n ax (number_of a))
+  _ ← port_checked insn cpu true
+  a ← device (port_read (port_of insn cpu) (port_size insn))
+  ends insn (writes insn cpu (port_size insn) ax (number_of a))
 
 abbrev pub out_row : Insn → Cpu → Tree Finish
 out_row insn cpu = do
-  let n = port_size insn
-  _ ← port_allowed cpu (port_of insn cpu) n
-  _ ← point (port_point insn cpu false)
-  _ ← device (port_write (port_of insn cpu) n (reads insn cpu n ax))
+  _ ← port_checked insn cpu false
+  _ ← device (port_write (port_of insn cpu) (port_size insn) (reads insn cpu (port_size insn) ax))
   ends insn cpu

@@ -6,6 +6,8 @@ use Rattle.xe_base.specs.declared.cpu.Cpu.{Cpu}
 use Rattle.xe_opmap.specs.declared.insn.Insn.{Insn}
 use Rattle.xe_opmap.specs.declared.row.Row.{Row}
 use Rattle.xe_opmap.specs.declared.row.Row.TheVariants as row
+use Rattle.xe_ctx.specs.Bounds.{TakesAtMost}
+use Rattle.xe_ctx.specs.Finishes.{EachGives}
 use Rattle.xe_ctx.specs.Operand.{is_some}
 use Rattle.xe_ctx.specs.Tree.{Tree, fault}
 use Rattle.xe_ctx.specs.declared.stop.Finish.{Finish}
@@ -82,3 +84,28 @@ pub record EndsCalmly (r : Row) (insn : Insn) (old : Cpu) (f : Finish) : Type 0 
   pub next : f.cpu.rip ≡ next_rip old insn.len
   pub more : f.more ≡ false
   pub retire : f.retire ≡ retire_of r
+
+-- ---- rows that level 0 alone may use
+
+abbrev pub is_privileged : Row → Bool
+is_privileged row.Hlt = true
+is_privileged row.Lgdt = true
+is_privileged row.Lidt = true
+is_privileged row.Lmsw = true
+is_privileged row.Invlpg = true
+is_privileged row.Swapgs = true
+is_privileged row.Clts = true
+is_privileged row.Invd = true
+is_privileged row.Wbinvd = true
+is_privileged row.Movcr = true
+is_privileged row.Wrmsr = true
+is_privileged row.Rdmsr = true
+is_privileged other = false
+
+abbrev pub Never : Finish → Type 0
+Never f = ⊥
+
+-- the instruction never finishes, and asks for nothing before it ends: no intercept, no memory, no device
+pub record IsRefused (t : Tree Finish) : Type 0 where
+  pub finishes : EachGives Never t
+  pub asks_nothing : TakesAtMost 0 0 0 t

@@ -1,5 +1,5 @@
 use Rattle.std.specs.Prelude.{◌+◌, ◌*◌, ◌%◌, ◌^◌, ◌==◌, if◌then◌else◌}
-use Rattle.xe_ctx.specs.Definition.{ℕ, Bool, Cpu, Insn, Tree, ◌>>=◌, fault, give, load, store, point, operand_of, ends}
+use Rattle.xe_ctx.specs.Definition.{ℕ, Cpu, Insn, Tree, ◌>>=◌, fault, give, load, store, point, operand_of, ends}
 use Rattle.xe_base.specs.Exceptions.{plain_exception, invalid_opcode}
 use Rattle.xe_base.specs.State.{needs, is_long, is_base}
 use Rattle.xe_base.specs.declared.segment.SegName.{SegName}

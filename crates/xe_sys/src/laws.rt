@@ -1,13 +1,13 @@
 //! Laws of the definitions, for the crates above.
 
-ghost use Rattle.std.specs.Prelude.{◌≡◌, true};
+ghost use Rattle.std.specs.Prelude.{◌≡◌, ◌==◌, true, false};
 ghost use Rattle.xe_base.specs.State.{Valid};
 ghost use Rattle.xe_base.specs.declared.cpu.Cpu.{Cpu};
 ghost use Rattle.xe_opmap.specs.declared.insn.Insn.{Insn};
 ghost use Rattle.xe_ctx.specs.Bounds.{TakesAtMost};
 ghost use Rattle.xe_ctx.specs.Finishes.{EachGives, IsSound};
 ghost use Rattle.xe_ctx.specs.Operand.{IsOf};
-ghost use Rattle.xe_sys.specs.Rows.{is_row, row_of, is_calm, EndsCalmly};
+ghost use Rattle.xe_sys.specs.Rows.{is_row, row_of, is_calm, EndsCalmly, is_privileged, IsRefused};
 
 /// Each instruction that finishes of IN, OUT, HLT, PAUSE, SGDT, SIDT, SMSW, INVLPG, INVD, WBINVD, RDTSC, RDMSR and
 /// CPUID has changed general registers and the instruction pointer alone, whatever memory and devices
@@ -30,4 +30,11 @@ pub fn rows_keep_states_valid()
 #[tactic(auto, using(crate::proofs::BoundRows::rows_take_little))]
 pub fn rows_take_little()
     ensures { (insn : Insn) → (cpu : Cpu) → IsOf cpu insn → TakesAtMost 64 6 30 (row_of insn cpu) }
+{}
+
+/// At a level other than 0 HLT, LGDT, LIDT, LMSW, INVLPG, SWAPGS, CLTS, INVD, WBINVD, MOV of control registers,
+/// WRMSR and RDMSR never finish, and ask for nothing before they end: no intercept, no memory, no device.
+#[tactic(auto, using(crate::proofs::LevelRows::rows_refused))]
+pub fn privileged_rows_need_level_0()
+    ensures { (insn : Insn) → (cpu : Cpu) → is_privileged insn.row ≡ true → (cpu.cpl == 0) ≡ false → IsRefused (row_of insn cpu) }
 {}

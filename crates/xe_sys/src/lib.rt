@@ -12,6 +12,11 @@ mod plain;
 mod port;
 mod rows;
 mod table;
+#[cfg(test)]
+mod tests;
 
-pub use laws::{rows_change_states_calmly, rows_keep_states_valid, rows_take_little};
+pub use laws::{
+    privileged_rows_need_level_0, rows_change_states_calmly, rows_keep_states_valid,
+    rows_take_little,
+};
 pub use rows::{exec, exec_into, is_row};

@@ -9,7 +9,7 @@ ghost use Rattle.xe_sys.specs.Plain.{hlt_row, pause_row, invd_row, wbinvd_row, i
 use xe_base::access::INVALID_OPCODE;
 use xe_base::{Cpu, Fault, SegName};
 use xe_ctx::operand::{Operand, done, operand_of};
-use xe_ctx::privilege::at_level_0;
+use xe_ctx::privilege::{at_level_0, or_protection};
 use xe_ctx::{Bus, Ctx, End, Stop};
 use xe_icpt::{Intercepts, Point};
 use xe_opmap::Insn;
@@ -115,7 +115,7 @@ pub fn swapgs<B: Bus, I: Intercepts>(
     requires { IsReady B.sight insn.now ctx.old cpu.old 0 0 }
     ensures { Finishes B.sight I.hits (swapgs_row insn.now (cpu_of ctx.old)) ctx.old result cpu.new ctx.new }
 {
-    at_level_0(ctx)?;
+    or_protection(ctx, cpu.cpl == 0)?;
     let base = cpu.gs.base;
     cpu.gs.base = cpu.kgs;
     cpu.kgs = base;

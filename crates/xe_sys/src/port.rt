@@ -3,8 +3,8 @@
 ghost use Rattle.std.specs.Prelude.{◌≡◌, ◌||◌, ◌==◌, ◌<◌, ◌≤◌, ◌*◌, ◌%◌, ◌^◌, IsTrue};
 ghost use Rattle.xe_base.specs.Access.{IsWellFormed};
 ghost use Rattle.xe_icpt.specs.Points.{IsPoint};
-ghost use Rattle.xe_ctx.specs.Contract.{ℕ, IsOf, IsReady, Finishes, cpu_of};
-ghost use Rattle.xe_sys.specs.Port.{names_port, port_of, port_size, port_point, port_read, port_write, in_row, out_row};
+ghost use Rattle.xe_ctx.specs.Contract.{ℕ, IsOf, HasLeft, IsReady, RunsWithin, Finishes, cpu_of};
+ghost use Rattle.xe_sys.specs.Port.{names_port, port_of, port_size, port_point, port_read, port_write, port_checked, in_row, out_row};
 
 use xe_base::{Access, Cpu, Space};
 use xe_ctx::operand::{AX, DX, done, read_register, write_register};
@@ -105,6 +105,23 @@ fn port_write(port: u16, size: u8, value: u64) -> Access
     }
 }
 
+/// Whether the program may use the port, and then the intercept.
+#[tactic(auto, using(xe_ctx::proofs::Trees::row_rules), unfolding(crate::specs::Port::port_checked))]
+fn check_port<B: Bus, I: Intercepts>(
+    insn: &Insn,
+    ctx: &mut Ctx<B, I>,
+    cpu: &Cpu,
+    input: bool,
+) -> Result<(), Stop>
+    requires ready { HasLeft B.sight ctx.old 4 20 }
+    requires insn { IsOf cpu.now insn.now }
+    requires draft { cpu.now ≡ cpu_of ctx.old }
+    ensures { RunsWithin B.sight I.hits (port_checked insn.now cpu.now input) ctx.old result ctx.new 4 20 }
+{
+    ctx.port_allowed(port_of(insn, cpu), port_size(insn) as u32)?;
+    ctx.point(&port_point(insn, cpu, input))
+}
+
 /// IN (SDM volume 2, "IN—Input From Port").
 pub fn input<B: Bus, I: Intercepts>(
     insn: &Insn,
@@ -114,11 +131,10 @@ pub fn input<B: Bus, I: Intercepts>(
     requires { IsReady B.sight insn.now ctx.old cpu.old 6 30 }
     ensures { Finishes B.sight I.hits (in_row insn.now (cpu_of ctx.old)) ctx.old result cpu.new ctx.new }
 {
-    let port = port_of(insn, cpu);
     let size = port_size(insn);
-    ctx.port_allowed(port, size as u32)?;
-    ctx.point(&port_point(insn, cpu, true))?;
-    let answer = ctx.device(port_read(port, size))?;
+    let access = port_read(port_of(insn, cpu), size);
+    check_port(insn, ctx, cpu, true)?;
+    let answer = ctx.device(access)?;
     write_register(insn, cpu, size, AX, answer.number());
     Ok(done(insn, cpu))
 }
@@ -132,11 +148,10 @@ pub fn output<B: Bus, I: Intercepts>(
     requires { IsReady B.sight insn.now ctx.old cpu.old 6 30 }
     ensures { Finishes B.sight I.hits (out_row insn.now (cpu_of ctx.old)) ctx.old result cpu.new ctx.new }
 {
-    let port = port_of(insn, cpu);
     let size = port_size(insn);
-    ctx.port_allowed(port, size as u32)?;
-    ctx.point(&port_point(insn, cpu, false))?;
     let value = read_register(insn, cpu, size, AX);
-    ctx.device(port_write(port, size, value))?;
+    let access = port_write(port_of(insn, cpu), size, value);
+    check_port(insn, ctx, cpu, false)?;
+    ctx.device(access)?;
     Ok(done(insn, cpu))
 }
