@@ -1,4 +1,4 @@
-use Rattle.std.proofs.Common.{ℕ, ◌≡◌, ◌<◌, ◌+◌, ◌-◌, ◌*◌, ◌/◌, ◌%◌, ◌^◌, ◌==◌, Bool, true, false, not, ◌&&◌, ◌||◌, nat_lt, nat_le, nat_eq, Option, Some, None, Ok, Err, bit_and, bit_or, refl, sym, ap, ◌∙◌, arith, if◌then◌else◌}
+use Rattle.std.proofs.Common.{ℕ, ◌≡◌, ◌<◌, ◌≤◌, ◌+◌, ◌-◌, ◌*◌, ◌/◌, ◌%◌, ◌^◌, ◌==◌, Bool, true, false, not, ◌&&◌, ◌||◌, nat_lt, nat_le, nat_eq, Option, Some, None, Ok, Err, bit_and, bit_or, refl, sym, ap, ◌∙◌, subst, arith, if◌then◌else◌}
 use Rattle.std.specs.Int.Bits.{and_zero_r}
 use Rattle.std.proofs.lemmas.Bool.{and_from}
 use Rattle.std.proofs.lemmas.Bool.Decides.{nat_tests}
@@ -18,6 +18,7 @@ use Rattle.xe_seg.specs.declared.descriptor.Descriptor.{Descriptor}
 use Rattle.xe_seg.proofs.DescriptorLaws.{attributes_of}
 use Rattle.xe_ctx.specs.Privilege.{is_real_mode}
 use Rattle.xe_ctx.proofs.Tame.{Tame}
+use Rattle.xe_far.specs.Change.{OnlyFlow}
 use Rattle.xe_far.specs.Flags.{where_, returned_flags}
 
 -- ---- the rules of a valid state, one after another
@@ -235,25 +236,37 @@ fixed_returned cpu n value = by_tests _ _ _ cpu.rflags value
 
 -- ---- arrival
 
--- a transfer led to a valid state, with the flags that no instruction changes as they were
+-- a transfer led to a valid state, at no more privilege, and changed the flow alone
 pub record Arrives (old new : Cpu) : Type 0 where
   pub valid : Valid new
+  pub only : OnlyFlow old new
   pub flags : fixed_flags new.rflags ≡ fixed_flags old.rflags
+  pub level : old.cpl ≤ new.cpl
   pub pointer : is_long new ≡ false → new.rip < 2 ^ 32
 
 -- it may write general registers and flags besides
-pub arrives : (old mid new : Cpu) → Valid mid → (is_long mid ≡ false → mid.rip < 2 ^ 32) → fixed_flags mid.rflags ≡ fixed_flags old.rflags → Tame mid new → Arrives old new
-arrives old mid new valid pointer flags t =
+pub arrives : (old mid new : Cpu) → Valid mid → OnlyFlow old mid → old.cpl ≤ mid.cpl → (is_long mid ≡ false → mid.rip < 2 ^ 32) → fixed_flags mid.rflags ≡ fixed_flags old.rflags → Tame mid new → Arrives old new
+arrives old mid new valid only level pointer flags t =
     let at : new.rip ≡ mid.rip = ap (λ (c : Cpu). c.rip) t.rest in
+    let same : new.cpl ≡ mid.cpl = ap (λ (c : Cpu). c.cpl) t.rest in
     let long : is_long new ≡ is_long mid = ap (λ (c : Cpu). is_long c) t.rest in
     let rest : new ≡ record mid { gpr = new.gpr; rip = new.rip; rflags = new.rflags } = t.rest ∙ ap (λ (r : ℕ). record mid { gpr = new.gpr; rip = r; rflags = new.rflags }) (sym at) in
     let goes : is_long mid ≡ false → new.rip < 2 ^ 32 = (λ h. rw at (pointer h)) in
+    let written : OnlyFlow old (record mid { gpr = new.gpr; rflags = new.rflags }) = ap (λ (c : Cpu). record c { gpr = new.gpr; rflags = new.rflags }) only in
     record {
       valid = calm_keeps_valid mid new valid (record { rest = rest; flags = t.flags; pointer = goes });
+      only = subst (λ (c : Cpu). OnlyFlow old c) (sym t.rest) written;
       flags = t.flags ∙ flags;
+      level = rw same level;
       pointer = λ h. goes (sym long ∙ h);
     }
 
 -- and then other flags
-pub arrives_with : (old new : Cpu) (f : ℕ) → Arrives old new → fixed_flags f ≡ fixed_flags old.rflags → Valid (record new { rflags = f })
-arrives_with old new f a same = calm_keeps_valid new (record new { rflags = f }) a.valid (record { rest = refl; flags = same ∙ sym a.flags; pointer = a.pointer })
+pub arrives_with : (old new : Cpu) (f : ℕ) → Arrives old new → fixed_flags f ≡ fixed_flags old.rflags → Arrives old (record new { rflags = f })
+arrives_with old new f a same = record {
+  valid = calm_keeps_valid new (record new { rflags = f }) a.valid (record { rest = refl; flags = same ∙ sym a.flags; pointer = a.pointer });
+  only = ap (λ (c : Cpu). record c { rflags = f }) a.only;
+  flags = same;
+  level = a.level;
+  pointer = a.pointer;
+}

@@ -1,4 +1,5 @@
-use Rattle.std.proofs.Common.{ℕ, ◌≡◌, ◌<◌, ◌≤◌, ◌+◌, ◌-◌, ◌*◌, ◌%◌, ◌^◌, Bool, true, false, not, ◌&&◌, ◌||◌, nat_lt, Option, Some, None, Result, Ok, Err, IfOk, refl, ap, subst, arith, lit≤, if◌then◌else◌, inl, inr}
+use Rattle.std.proofs.Common.{ℕ, ◌≡◌, ◌<◌, ◌≤◌, ◌+◌, ◌-◌, ◌*◌, ◌%◌, ◌^◌, ◌==◌, Bool, true, false, not, ◌&&◌, ◌||◌, nat_lt, Option, Some, None, Result, Ok, Err, IfOk, refl, ap, subst, arith, lit≤, if◌then◌else◌, inl, inr}
+use Rattle.std.proofs.lemmas.Bool.Decides.{nat_tests}
 use Rattle.std.proofs.lemmas.Bool.{or_cases, eqb-true}
 use Rattle.std.proofs.lemmas.Nat.{pow_pos}
 use Rattle.xe_base.specs.State.{Valid, is_long, lma, pe, seg_l, seg_db, mode_of, level_is_valid}
@@ -32,9 +33,11 @@ use Rattle.xe_ctx.specs.Tree.{Tree, ◌>>=◌}
 use Rattle.xe_ctx.specs.declared.operand.Operand.{Operand}
 use Rattle.xe_ctx.specs.declared.operand.Operand.TheVariants.{Register, Memory}
 use Rattle.xe_ctx.specs.declared.stop.End.{End}
+use Rattle.xe_ctx.specs.declared.stop.Finish.{Finish}
 use Rattle.xe_ctx.specs.declared.stop.Stop.{Stop}
-use Rattle.xe_ctx.proofs.FinishLaws.{each_then, gives_of}
+use Rattle.xe_ctx.proofs.FinishLaws.{each_then, each_implies, gives_of}
 use Rattle.xe_ctx.proofs.Tame.{Tame, tame_same, tame_register, asked_then, each_if}
+use Rattle.xe_far.specs.Change.{Transfers}
 use Rattle.xe_far.specs.CodeSegment.{or_raise, refused, may_call, may_run_at, mixes_sizes, check_called, called_segment, code_to_call, check_returned, code_to_return_to}
 use Rattle.xe_far.specs.Outer.{lands, is_lost, without_lost, with_data_left, with_stack, return_with_stack}
 use Rattle.xe_far.specs.Pointer.{pointer_of, load_pointer, pointer_at, pointer_or, far_pointer, pop_pointer}
@@ -129,8 +132,8 @@ not_64 false b false h = refl
 
 cut_32 : (n x : ℕ) → IsSize n → n ≤ 4 → x < 2 ^ (8 * n) → x < 2 ^ 32
 cut_32 n x size small h =
-    elim (or_cases _ _ size) [
-      | inl s ↦ elim (or_cases _ _ s) [
+    elim (or_cases (n == 2 || n == 4) (n == 8) size) [
+      | inl s ↦ elim (or_cases (n == 2) (n == 4) s) [
         | inl e ↦ let k : x < 2 ^ (8 * 2) = subst (λ (m : ℕ). x < 2 ^ (8 * m)) (eqb-true n 2 e) h in omega arith
         | inr e ↦ let k : x < 2 ^ (8 * 4) = subst (λ (m : ℕ). x < 2 ^ (8 * m)) (eqb-true n 4 e) h in omega arith
       ]
@@ -146,9 +149,12 @@ valid_real cpu sel offset s o valid =
     valid_moved cpu (real_segment cpu.cs sel) cpu.ss cpu.es cpu.ds cpu.fs cpu.gs offset cpu.cpl (fits_real cpu.cs sel s) (fits_low_same cpu.ss)
     (fits_same cpu.es) (fits_same cpu.ds) (fits_same cpu.fs) (fits_same cpu.gs) (λ h. h) (λ h. h) (pointer_fits (is_long cpu) offset (λ h. o)) valid
 
+le_self : (x : ℕ) → x ≤ x
+le_self x = omega arith
+
 arrives_real : (cpu new : Cpu) (p : FarPointer) → p.sel < 2 ^ 16 → p.offset < 2 ^ 32 → Valid cpu → Tame cpu new → Arrives cpu (goes_to new (real_segment cpu.cs p.sel) p.offset)
 arrives_real cpu new p s o valid t =
-    arrives cpu (goes_to cpu (real_segment cpu.cs p.sel) p.offset) _ (valid_real cpu p.sel p.offset s o valid) (λ h. o) refl (tame_goes cpu new (real_segment cpu.cs p.sel) p.offset t)
+    arrives cpu (goes_to cpu (real_segment cpu.cs p.sel) p.offset) _ (valid_real cpu p.sel p.offset s o valid) refl (le_self cpu.cpl) (λ h. o) refl (tame_goes cpu new (real_segment cpu.cs p.sel) p.offset t)
 
 -- ---- calls and jumps outside real mode
 
@@ -187,7 +193,7 @@ valid_called cpu sel offset d q valid =
 arrives_called : (cpu new : Cpu) (p : FarPointer) (d : Descriptor) → IsCode cpu (p.sel - rpl_of p.sel + cpu.cpl % 4) p.offset d → Valid cpu → Tame cpu new → Arrives cpu (goes_to new (called_segment cpu p.sel d) p.offset)
 arrives_called cpu new p d q valid t =
     let sel = p.sel - rpl_of p.sel + cpu.cpl % 4 in
-    arrives cpu (goes_to cpu (called_segment cpu p.sel d) p.offset) _ (valid_called cpu sel p.offset d q valid) (target_below cpu sel d p.offset q.at) refl
+    arrives cpu (goes_to cpu (called_segment cpu p.sel d) p.offset) _ (valid_called cpu sel p.offset d q valid) refl (le_self cpu.cpl) (target_below cpu sel d p.offset q.at) refl
     (tame_goes cpu new (called_segment cpu p.sel d) p.offset t)
 
 module _ (insn : Insn) (cpu : Cpu) (p : FarPointer) (of_ : IsOf cpu insn) (valid : Valid cpu) (q : IsPointer insn.opsize p) where
@@ -232,28 +238,37 @@ module _ (insn : Insn) (cpu : Cpu) (p : FarPointer) (of_ : IsOf cpu insn) (valid
 
 -- ---- returns outside real mode
 
-returned_by : (a b c e m : Bool) (f g h i k : Fault) (x : Unit {0}) → (if a then Err f else (if b then Err g else (if not c then Err h else (if not e then Err i else (if m then Err k else Ok tt))))) ≡ Ok x → m ≡ false
+returned_by : (a b c e m : Bool) (f g h i k : Fault) (x : Unit {0}) → (if a then Err f else (if b then Err g else (if not c then Err h else (if not e then Err i else (if m then Err k else Ok tt))))) ≡ Ok x → (b ≡ false) × (m ≡ false)
 returned_by true b c e m f g h i k x o = cc
 returned_by false true c e m f g h i k x o = cc
 returned_by false false false e m f g h i k x o = cc
 returned_by false false true false m f g h i k x o = cc
 returned_by false false true true true f g h i k x o = cc
-returned_by false false true true false f g h i k x o = refl
+returned_by false false true true false f g h i k x o = (refl, refl)
 
-returned_size : (cpu : Cpu) (sel : ℕ) (d : Descriptor) (x : Unit {0}) → check_returned cpu sel d ≡ Ok x → mixes_sizes cpu d ≡ false
-returned_size cpu sel d x e =
-    returned_by (not (s_of d) || not (is_code (attr_of d))) (nat_lt (rpl_of sel) cpu.cpl) (may_run_at (rpl_of sel) d) (present_of d) (mixes_sizes cpu d)
-    (refused cpu sel) (refused cpu sel) (refused cpu sel) (selector_fault cpu segment_not_present sel) (refused cpu sel) x e
+-- code of one size, at no more privilege
+record IsReturn (cpu : Cpu) (sel : ℕ) (d : Descriptor) : Type 0 where
+  size : mixes_sizes cpu d ≡ false
+  level : cpu.cpl ≤ rpl_of sel
 
-code_returned : (cpu : Cpu) (sel : ℕ) → EachGives (λ d. mixes_sizes cpu d ≡ false) (code_to_return_to cpu sel)
+not_above : (a b : ℕ) → nat_lt a b ≡ false → b ≤ a
+not_above a b h = grind (arith, nat_tests)
+
+is_return : (cpu : Cpu) (sel : ℕ) (d : Descriptor) (x : Unit {0}) → check_returned cpu sel d ≡ Ok x → IsReturn cpu sel d
+is_return cpu sel d x e =
+    let t = returned_by (not (s_of d) || not (is_code (attr_of d))) (nat_lt (rpl_of sel) cpu.cpl) (may_run_at (rpl_of sel) d) (present_of d) (mixes_sizes cpu d)
+    (refused cpu sel) (refused cpu sel) (refused cpu sel) (selector_fault cpu segment_not_present sel) (refused cpu sel) x e in
+    record { size = t.1; level = not_above (rpl_of sel) cpu.cpl t.0 }
+
+code_returned : (cpu : Cpu) (sel : ℕ) → EachGives (IsReturn cpu sel) (code_to_return_to cpu sel)
 unfolding code_to_return_to
-code_returned cpu sel = asked_then (λ d. mixes_sizes cpu d ≡ false) _ _ (λ d. raised_then (λ e. mixes_sizes cpu e ≡ false) (check_returned cpu sel d) _ (λ x e. returned_size cpu sel d x e))
+code_returned cpu sel = asked_then (IsReturn cpu sel) _ _ (λ d. raised_then (IsReturn cpu sel) (check_returned cpu sel d) _ (λ x e. is_return cpu sel d x e))
 
 -- the new level is one, since protection is on
 level_lands : (cpu : Cpu) (sel : ℕ) → Valid cpu → is_real_mode (mode_of cpu) ≡ false → level_is_valid (record cpu { cpl = rpl_of sel }) ≡ true
 level_lands cpu sel valid other = level_fits (pe cpu) sel (protection_on cpu valid other)
 
-module _ (cpu : Cpu) (p : FarPointer) (d : Descriptor) (valid : Valid cpu) (other : is_real_mode (mode_of cpu) ≡ false) (q : IsCode cpu p.sel p.offset d) where
+module _ (cpu : Cpu) (p : FarPointer) (d : Descriptor) (valid : Valid cpu) (other : is_real_mode (mode_of cpu) ≡ false) (up : cpu.cpl ≤ rpl_of p.sel) (q : IsCode cpu p.sel p.offset d) where
   lands_with : (ss es ds fs gs : Seg) → FitsLow cpu.ss ss → Fits cpu.es es → Fits cpu.ds ds → Fits cpu.fs fs → Fits cpu.gs gs → Valid (moved cpu (loaded p.sel d) ss es ds fs gs p.offset (rpl_of p.sel))
   lands_with ss es ds fs gs s e a f g =
       valid_moved cpu (loaded p.sel d) ss es ds fs gs p.offset (rpl_of p.sel) (fits_loaded cpu.cs p.sel d) s e a f g
@@ -263,7 +278,7 @@ module _ (cpu : Cpu) (p : FarPointer) (d : Descriptor) (valid : Valid cpu) (othe
   valid_lands = lands_with cpu.ss cpu.es cpu.ds cpu.fs cpu.gs (fits_low_same cpu.ss) (fits_same cpu.es) (fits_same cpu.ds) (fits_same cpu.fs) (fits_same cpu.gs)
 
   arrives_lands : (new : Cpu) → Tame cpu new → Arrives cpu (lands new p d)
-  arrives_lands new t = arrives cpu (lands cpu p d) _ valid_lands (target_below cpu p.sel d p.offset q.at) refl (tame_lands cpu new p d t)
+  arrives_lands new t = arrives cpu (lands cpu p d) _ valid_lands refl up (target_below cpu p.sel d p.offset q.at) refl (tame_lands cpu new p d t)
 
   arrives_stack : (less : Bool) (ss : Seg) (offset extra : ℕ) → FitsLow cpu.ss ss → Arrives cpu (with_stack (if less then without_lost (lands cpu p d) else lands cpu p d) ss offset extra)
   arrives_stack true ss offset extra s =
@@ -271,12 +286,12 @@ module _ (cpu : Cpu) (p : FarPointer) (d : Descriptor) (valid : Valid cpu) (othe
       let left : Cpu = record (without_lost (lands cpu p d)) { ss = ss } in
       arrives cpu left _
       (lands_with ss _ _ _ _ s (fits_left (is_lost level cpu.es) cpu.es) (fits_left (is_lost level cpu.ds) cpu.ds) (fits_left (is_lost level cpu.fs) cpu.fs) (fits_left (is_lost level cpu.gs) cpu.gs))
-      (target_below cpu p.sel d p.offset q.at) refl (tame_stack _ (tame_same left))
+      refl up (target_below cpu p.sel d p.offset q.at) refl (tame_stack _ (tame_same left))
   arrives_stack false ss offset extra s =
       let left : Cpu = record (lands cpu p d) { ss = ss } in
       arrives cpu left _
       (lands_with ss cpu.es cpu.ds cpu.fs cpu.gs s (fits_same cpu.es) (fits_same cpu.ds) (fits_same cpu.fs) (fits_same cpu.gs))
-      (target_below cpu p.sel d p.offset q.at) refl (tame_stack _ (tame_same left))
+      refl up (target_below cpu p.sel d p.offset q.at) refl (tame_stack _ (tame_same left))
 
   arrives_left : (ss : Seg) (offset extra : ℕ) → FitsLow cpu.ss ss → Arrives cpu (with_stack (with_data_left cpu.cpl (lands cpu p d)) ss offset extra)
   unfolding with_data_left
@@ -288,28 +303,28 @@ fits_stack cpu at sel e ss same small ok =
     record { attr = λ h. k.attr (rw same h); low = λ h. below ss.base (2 ^ 32) k.base }
 
 module _ (insn : Insn) (cpu : Cpu) (p : FarPointer) (valid : Valid cpu) (other : is_real_mode (mode_of cpu) ≡ false) where
-  on_stack : (d : Descriptor) (taken : ℕ) → mixes_sizes cpu d ≡ false → EachGives (Arrives cpu) (return_on_stack cpu p d taken)
+  on_stack : (d : Descriptor) (taken : ℕ) → IsReturn cpu p.sel d → EachGives (Arrives cpu) (return_on_stack cpu p d taken)
   unfolding return_on_stack
-  on_stack d taken size =
+  on_stack d taken r =
       raised_then (Arrives cpu) (target cpu (loaded p.sel d) p.offset) _ (λ x t. asked_then (Arrives cpu) _ _ (λ u.
-      arrives_lands cpu p d valid other (record { size = size; at = target_tells cpu (loaded p.sel d) p.offset x t }) _ (tame_released cpu taken)))
+      arrives_lands cpu p d valid other r.level (record { size = r.size; at = target_tells cpu (loaded p.sel d) p.offset x t }) _ (tame_released cpu taken)))
 
-  on_new_stack : (d : Descriptor) (taken extra : ℕ) → mixes_sizes cpu d ≡ false → EachGives (Arrives cpu) (return_with_stack insn cpu p d taken extra)
+  on_new_stack : (d : Descriptor) (taken extra : ℕ) → IsReturn cpu p.sel d → EachGives (Arrives cpu) (return_with_stack insn cpu p d taken extra)
   unfolding return_with_stack
-  on_new_stack d taken extra size =
+  on_new_stack d taken extra r =
       each_then (Arrives cpu) (IsPointer insn.opsize) (pop_pointer insn cpu (taken + extra)) _ (popped insn cpu (taken + extra)) (λ stack s.
       asked_then (Arrives cpu) _ _ (λ e.
       raised_then (Arrives cpu) (load (lands cpu p d) Ss stack.sel e) _ (λ ss l.
       raised_then (Arrives cpu) (target cpu (loaded p.sel d) p.offset) _ (λ x t.
       asked_then (Arrives cpu) _ _ (λ u. asked_then (Arrives cpu) _ _ (λ v.
-      arrives_left cpu p d valid other (record { size = size; at = target_tells cpu (loaded p.sel d) p.offset x t }) ss stack.offset extra
+      arrives_left cpu p d valid other r.level (record { size = r.size; at = target_tells cpu (loaded p.sel d) p.offset x t }) ss stack.offset extra
       (fits_stack cpu (lands cpu p d) stack.sel e ss refl s.sel l)))))))
 
   protected_returns : (always : Bool) (taken extra : ℕ) → EachGives (Arrives cpu) (protected_return insn cpu always p taken extra)
   unfolding protected_return
   protected_returns always taken extra =
-      each_then (Arrives cpu) (λ d. mixes_sizes cpu d ≡ false) (code_to_return_to cpu p.sel) _ (code_returned cpu p.sel) (λ d size.
-      each_if (Arrives cpu) (always || nat_lt cpu.cpl (rpl_of p.sel)) _ _ (on_new_stack d taken extra size) (on_stack d (taken + extra) size))
+      each_then (Arrives cpu) (IsReturn cpu p.sel) (code_to_return_to cpu p.sel) _ (code_returned cpu p.sel) (λ d r.
+      each_if (Arrives cpu) (always || nat_lt cpu.cpl (rpl_of p.sel)) _ _ (on_new_stack d taken extra r) (on_stack d (taken + extra) r))
 
 module _ (insn : Insn) (cpu : Cpu) (p : FarPointer) (of_ : IsOf cpu insn) (valid : Valid cpu) (q : IsPointer insn.opsize p) where
   return_in : (real : Bool) (always : Bool) (a b c : ℕ) → is_real_mode (mode_of cpu) ≡ real → EachGives (Arrives cpu) (if real then real_return cpu p a else protected_return insn cpu always p b c)
@@ -332,36 +347,50 @@ module _ (insn : Insn) (cpu : Cpu) (p : FarPointer) (of_ : IsOf cpu insn) (valid
 
 -- ---- the rows
 
-ends_sound : (cpu : Cpu) → Valid cpu → IsSound (ends_at cpu)
-ends_sound cpu valid = record { valid = valid; retire = lit≤ tt }
+-- how each of them ends
+record Ends (cpu : Cpu) (f : Finish) : Type 0 where
+  sound : IsSound f
+  transfers : Transfers cpu f
+
+ends : (cpu after : Cpu) → Arrives cpu after → Ends cpu (ends_at after)
+ends cpu after a = record {
+  sound = record { valid = a.valid; retire = lit≤ tt };
+  transfers = record { only = a.only; flags = a.flags; level = a.level; more = refl; retire = refl };
+}
 
 module _ (insn : Insn) (cpu : Cpu) (of_ : IsOf cpu insn) (valid : Valid cpu) where
-  sound_jmpf : EachGives IsSound (jmpf_row insn cpu)
-  sound_jmpf = each_then IsSound (IsPointer insn.opsize) (far_pointer insn cpu) _ (pointed insn cpu) (λ p q. each_then IsSound (Arrives cpu) (jump cpu p) _ (jumps insn cpu p of_ valid q) (λ after a. ends_sound after a.valid))
+  ends_jmpf : EachGives (Ends cpu) (jmpf_row insn cpu)
+  ends_jmpf = each_then (Ends cpu) (IsPointer insn.opsize) (far_pointer insn cpu) _ (pointed insn cpu) (λ p q. each_then (Ends cpu) (Arrives cpu) (jump cpu p) _ (jumps insn cpu p of_ valid q) (λ after a. ends cpu after a))
 
-  sound_callf : EachGives IsSound (callf_row insn cpu)
-  sound_callf = each_then IsSound (IsPointer insn.opsize) (far_pointer insn cpu) _ (pointed insn cpu) (λ p q. each_then IsSound (Arrives cpu) (call insn cpu p) _ (calls insn cpu p of_ valid q) (λ after a. ends_sound after a.valid))
+  ends_callf : EachGives (Ends cpu) (callf_row insn cpu)
+  ends_callf = each_then (Ends cpu) (IsPointer insn.opsize) (far_pointer insn cpu) _ (pointed insn cpu) (λ p q. each_then (Ends cpu) (Arrives cpu) (call insn cpu p) _ (calls insn cpu p of_ valid q) (λ after a. ends cpu after a))
 
-  sound_retf : EachGives IsSound (retf_row insn cpu)
-  sound_retf = each_then IsSound (IsPointer insn.opsize) (pop_pointer insn cpu 0) _ (popped insn cpu 0) (λ p q. each_then IsSound (Arrives cpu) (far_return insn cpu p) _ (far_returns insn cpu p of_ valid q) (λ after a. ends_sound after a.valid))
+  ends_retf : EachGives (Ends cpu) (retf_row insn cpu)
+  ends_retf = each_then (Ends cpu) (IsPointer insn.opsize) (pop_pointer insn cpu 0) _ (popped insn cpu 0) (λ p q. each_then (Ends cpu) (Arrives cpu) (far_return insn cpu p) _ (far_returns insn cpu p of_ valid q) (λ after a. ends cpu after a))
 
-  sound_iret : EachGives IsSound (iret_row insn cpu)
-  sound_iret =
-      asked_then IsSound _ _ (λ u. asked_then IsSound _ _ (λ v.
-      each_then IsSound (IsPointer insn.opsize) (pop_pointer insn cpu 0) _ (popped insn cpu 0) (λ p q. asked_then IsSound _ _ (λ flags.
-      each_then IsSound (Arrives cpu) (interrupt_return insn cpu p flags) _ (interrupt_returns insn cpu p of_ valid q flags) (λ after a.
-      ends_sound _ (arrives_with cpu after _ a (fixed_returned cpu insn.opsize flags)))))))
+  ends_iret : EachGives (Ends cpu) (iret_row insn cpu)
+  ends_iret =
+      asked_then (Ends cpu) _ _ (λ u. asked_then (Ends cpu) _ _ (λ v.
+      each_then (Ends cpu) (IsPointer insn.opsize) (pop_pointer insn cpu 0) _ (popped insn cpu 0) (λ p q. asked_then (Ends cpu) _ _ (λ flags.
+      each_then (Ends cpu) (Arrives cpu) (interrupt_return insn cpu p flags) _ (interrupt_returns insn cpu p of_ valid q flags) (λ after a.
+      ends cpu _ (arrives_with cpu after _ a (fixed_returned cpu insn.opsize flags)))))))
 
-  sound_at : (r : Row) → EachGives IsSound (or_undefined (row_at r) insn cpu)
-  sound_at row.Callf = sound_callf
-  sound_at row.Jmpf = sound_jmpf
-  sound_at row.Retf = sound_retf
-  sound_at row.Iret = sound_iret
-  sound_at other = tt
+  ends_by_row : (r : Row) → EachGives (Ends cpu) (or_undefined (row_at r) insn cpu)
+  ends_by_row row.Callf = ends_callf
+  ends_by_row row.Jmpf = ends_jmpf
+  ends_by_row row.Retf = ends_retf
+  ends_by_row row.Iret = ends_iret
+  ends_by_row other = tt
 
--- the law of the whole crate
+-- the laws of the whole crate
+rows_end : (insn : Insn) (cpu : Cpu) → IsOf cpu insn → Valid cpu → EachGives (Ends cpu) (row_of insn cpu)
+rows_end insn cpu of_ valid = ends_by_row insn cpu of_ valid insn.row
+
 pub rows_sound : (insn : Insn) (cpu : Cpu) → is_row insn.row ≡ true → IsOf cpu insn → Valid cpu → EachGives IsSound (row_of insn cpu)
-rows_sound insn cpu built of_ valid = sound_at insn cpu of_ valid insn.row
+rows_sound insn cpu built of_ valid = each_implies (Ends cpu) IsSound (λ f e. e.sound) (row_of insn cpu) (rows_end insn cpu of_ valid)
+
+pub rows_transfer : (insn : Insn) (cpu : Cpu) → is_row insn.row ≡ true → IsOf cpu insn → Valid cpu → EachGives (Transfers cpu) (row_of insn cpu)
+rows_transfer insn cpu built of_ valid = each_implies (Ends cpu) (Transfers cpu) (λ f e. e.transfers) (row_of insn cpu) (rows_end insn cpu of_ valid)
 
 -- an instruction that finishes leaves a valid state
 pub finish_sound : (insn : Insn) (cpu after : Cpu) (res : Result End Stop) (old new : Sight) → is_row insn.row ≡ true → IsOf cpu insn → Is (row_of insn cpu) old (finished res after) new → Valid cpu → IfOk (finished res after) IsSound

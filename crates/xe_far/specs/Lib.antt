@@ -4,4 +4,5 @@ pub mod Transfer
 pub mod Flags
 pub mod Outer
 pub mod Return
+pub mod Change
 pub mod Rows

@@ -7,7 +7,16 @@ ghost use Rattle.xe_opmap.specs.declared.insn.Insn.{Insn};
 ghost use Rattle.xe_ctx.specs.Bounds.{TakesAtMost};
 ghost use Rattle.xe_ctx.specs.Finishes.{EachGives, IsSound};
 ghost use Rattle.xe_ctx.specs.Operand.{IsOf};
+ghost use Rattle.xe_far.specs.Change.{Transfers};
 ghost use Rattle.xe_far.specs.Rows.{is_row, row_of};
+
+/// A far transfer changes general registers, the instruction pointer, flags, segment registers and the
+/// level alone, of the flags only those that an instruction may change, and never gains privilege,
+/// whatever memory and devices answer. It is done at once, and its retirement brings nothing with it.
+#[tactic(auto, using(crate::proofs::SoundRows::rows_transfer))]
+pub fn rows_never_gain_privilege()
+    ensures { (insn : Insn) → (cpu : Cpu) → is_row insn.row ≡ true → IsOf cpu insn → Valid cpu → EachGives (Transfers cpu) (row_of insn cpu) }
+{}
 
 /// From a valid state each far transfer finishes in a valid state, whatever memory and devices answer,
 /// and its retirement brings with it less than the bit of a single step.

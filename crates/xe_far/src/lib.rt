@@ -14,5 +14,5 @@ mod rows;
 mod tests;
 mod transfer;
 
-pub use laws::{rows_keep_states_valid, rows_take_little};
+pub use laws::{rows_keep_states_valid, rows_never_gain_privilege, rows_take_little};
 pub use rows::{exec, exec_into, is_row};

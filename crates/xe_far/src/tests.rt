@@ -2,7 +2,7 @@
 
 ghost use Rattle.std.specs.Prelude.{◌≤◌, length, None};
 
-use crate::{exec, is_row, rows_keep_states_valid, rows_take_little};
+use crate::{exec, is_row, rows_keep_states_valid, rows_never_gain_privilege, rows_take_little};
 use std::alloc::Global;
 use std::process::Abort;
 use std::test::Fail;
@@ -102,6 +102,7 @@ fn protected() -> Cpu {
 
 #[test]
 fn jumps_by_the_descriptor(rt: HostRuntime) {
+    rows_never_gain_privilege();
     rows_keep_states_valid();
     rows_take_little();
     let cpu = protected();
