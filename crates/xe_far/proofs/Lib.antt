@@ -1,0 +1,5 @@
+pub mod Raises
+pub mod BoundRows
+pub mod Arrival
+pub mod SoundRows
+pub mod TestLaws

@@ -1,0 +1,8 @@
+pub mod Pointer
+pub mod CodeSegment
+pub mod Transfer
+pub mod Flags
+pub mod Outer
+pub mod Return
+pub mod Change
+pub mod Rows

@@ -1,0 +1,81 @@
+//! The rows of this crate by their names.
+
+ghost use Rattle.std.specs.Prelude.{◌≡◌};
+ghost use Rattle.xe_base.specs.State.{Valid};
+ghost use Rattle.xe_ctx.specs.Contract.{true, IfOk, IsOf, HasLeft, IsReady, Runs, Finishes, cpu_of};
+ghost use Rattle.xe_ctx.specs.Finishes.{IsSound};
+ghost use Rattle.xe_ctx.specs.Flow.{outcome};
+ghost use Rattle.xe_ctx.specs.Runs.{finished};
+ghost use Rattle.xe_far.specs.Rows.{is_row, row_of};
+
+use crate::return_::{iret, retf};
+use crate::transfer::{callf, jmpf};
+use xe_base::Cpu;
+use xe_ctx::{Bus, Ctx, End, Flow, Stop};
+use xe_icpt::Intercepts;
+use xe_opmap::{Insn, Row};
+
+/// Whether this crate has the row.
+pub fn is_row(row: Row) -> bool
+    ensures { result ≡ is_row row }
+{
+    match row {
+        Row::Callf => true,
+        Row::Jmpf => true,
+        Row::Retf => true,
+        Row::Iret => true,
+        _ => false,
+    }
+}
+
+/// The work of an instruction of one of this crate's rows.
+fn run_row<B: Bus, I: Intercepts>(
+    insn: &Insn,
+    ctx: &mut Ctx<B, I>,
+    cpu: &mut Cpu,
+) -> Result<End, Stop>
+    requires row { is_row insn.now.row ≡ true }
+    requires ready { IsReady B.sight insn.now ctx.old cpu.old 30 92 }
+    ensures { Finishes B.sight I.hits (row_of insn.now (cpu_of ctx.old)) ctx.old result cpu.new ctx.new }
+{
+    match insn.row {
+        Row::Callf => callf(insn, ctx, cpu),
+        Row::Jmpf => jmpf(insn, ctx, cpu),
+        Row::Retf => retf(insn, ctx, cpu),
+        Row::Iret => iret(insn, ctx, cpu),
+        _ => unreachable!(),
+    }
+}
+
+/// Does an instruction of one of this crate's rows, as its definition says, with at most 30 accesses,
+/// and at most 92 bytes of RAM touched. It works on a draft of the registers, which holds those of the
+/// step when it begins, and is worth nothing where the instruction doesn't finish. Where it finishes,
+/// it leaves a valid state.
+#[tactic(auto, using(xe_ctx::proofs::Trees::row_rules, crate::proofs::SoundRows::finish_sound))]
+pub fn exec_into<B: Bus, I: Intercepts>(
+    insn: &Insn,
+    ctx: &mut Ctx<B, I>,
+    cpu: &mut Cpu,
+) -> Result<End, Stop>
+    requires row { is_row insn.now.row ≡ true }
+    requires ready { IsReady B.sight insn.now ctx.old cpu.old 30 92 }
+    ensures runs { Finishes B.sight I.hits (row_of insn.now (cpu_of ctx.old)) ctx.old result cpu.new ctx.new }
+    ensures sound { Valid (cpu_of ctx.old) → IfOk (finished result cpu.new) IsSound }
+{
+    run_row(insn, ctx, cpu)
+}
+
+/// The same, with the registers in the answer.
+pub fn exec<B: Bus, I: Intercepts>(insn: &Insn, ctx: &mut Ctx<B, I>) -> Flow
+    requires row { is_row insn.now.row ≡ true }
+    requires insn { IsOf (cpu_of ctx.old) insn.now }
+    requires ready { HasLeft B.sight ctx.old 30 92 }
+    ensures runs { Runs B.sight I.hits (row_of insn.now (cpu_of ctx.old)) ctx.old (outcome result) ctx.new }
+    ensures sound { IfOk (outcome result) IsSound }
+{
+    let mut cpu = *ctx.cpu();
+    match exec_into(insn, ctx, &mut cpu) {
+        Ok(End { more, retire }) => Flow::Finish { cpu, more, retire },
+        Err(stop) => Flow::Stopped(stop),
+    }
+}
