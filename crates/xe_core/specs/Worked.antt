@@ -14,8 +14,8 @@ use Rattle.xe_ctx.specs.Kept.{Kept, nothing}
 use Rattle.xe_ctx.specs.Tape.{Tape, Item, Gives, Waits, empty_tape, fed}
 use Rattle.xe_ctx.specs.declared.report.Outcome.{Outcome}
 use Rattle.xe_ctx.specs.declared.report.Outcome.TheVariants.{Done, Pending, Diverged}
-use Rattle.xe_core.specs.Emulate.{step_of}
-use Rattle.xe_core.specs.Rows.{port_read}
+use Rattle.xe_core.specs.Emulate.{steps_of}
+use Rattle.xe_core.specs.Interim.{port_read}
 
 -- the registers at start, but for RIP and RAX
 abbrev pub registers : ℕ → ℕ → Cpu
@@ -47,7 +47,7 @@ abbrev pub told : Call → Told
 told c = record { row = c.row; outcome = c.outcome; state = c.state; made = c.accesses; kept = c.kept }
 
 abbrev pub called_at : State → Kept → List Item → Told
-called_at s kept items = told (one_call (step_of s nothing_hit) s kept (keyboard items))
+called_at s kept items = told (one_call (steps_of nothing_hit) 1 s kept (keyboard items))
 
 -- what a step keeps that waits for the keyboard
 abbrev pub asking : Kept

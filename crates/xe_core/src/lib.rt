@@ -1,8 +1,9 @@
-//! One step of a machine: fetch, decode, the instructions that are built, and what a call reports.
+//! Turns of a machine: fetch, decode, the rows of all crates, and what a call reports.
 #![tactic(auto)]
 
 pub mod call;
 mod fetch;
+mod interim;
 pub mod laws;
 mod rows;
 
