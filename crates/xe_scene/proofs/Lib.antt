@@ -7,3 +7,4 @@ pub mod KeyLaws
 pub mod TapeLaws
 pub mod RegionLaws
 pub mod RoomLaws
+pub mod InterceptLaws

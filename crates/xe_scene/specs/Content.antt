@@ -7,12 +7,14 @@ use Rattle.xe_mem.specs.Layout.{fits_after, end_behind, total}
 use Rattle.xe_scene.specs.declared.reason.Reason.{Reason}
 use Rattle.xe_scene.specs.declared.reason.Reason.TheVariants.{BadByte, LongLine, Spacing, BadRegion, TooMuchRam, TooMany}
 use Rattle.xe_scene.specs.declared.command.Command.{Command}
-use Rattle.xe_scene.specs.declared.command.Command.TheVariants.{Reg, Seg, Table, Poke, Dev, Run, Call, Show, Dump}
+use Rattle.xe_scene.specs.declared.command.Command.TheVariants.{Reg, Seg, Table, Poke, Dev, Icpt, Unicpt, Ioport, Icptmsr, Batch, Run, Call, Show, Dump}
 use Rattle.xe_scene.specs.declared.queue.QueueName.{QueueName}
 use Rattle.xe_scene.specs.declared.words.Entry.{Entry}
 use Rattle.xe_scene.specs.declared.words.Entry.TheVariants.{Ram, Obey}
 use Rattle.xe_scene.specs.Chain.{◌>>=◌}
-use Rattle.xe_scene.specs.Queues.{queue_of, same_queue}
+use Rattle.xe_icpt.specs.SvmSet.{has_msr}
+use Rattle.xe_icpt.specs.declared.svm_set.MsrPair.{MsrPair}
+use Rattle.xe_scene.specs.Queues.{is_write, queue_of, same_queue}
 use Rattle.xe_scene.specs.Words.{entry_of}
 
 -- what the lines so far said
@@ -35,6 +37,11 @@ with_queue_of qs (Seg r s b l a) = qs
 with_queue_of qs (Table t b l) = qs
 with_queue_of qs (Poke a b) = qs
 with_queue_of qs (Dev s d a is) = if list_any (same_queue (queue_of s d a)) qs then qs else qs ++ queue_of s d a ∷ []
+with_queue_of qs (Icpt n) = qs
+with_queue_of qs (Unicpt n) = qs
+with_queue_of qs (Ioport l h) = qs
+with_queue_of qs (Icptmsr d n) = qs
+with_queue_of qs (Batch n) = qs
 with_queue_of qs (Run n) = qs
 with_queue_of qs Call = qs
 with_queue_of qs Show = qs
@@ -44,6 +51,30 @@ with_queue_of qs (Dump a n) = qs
 abbrev pub queues_of : List Command → List QueueName
 queues_of cs = fold with_queue_of [] cs
 
+-- these pairs of a model-specific register and a direction, and another if it isn't one of them
+abbrev pub with_pair : List MsrPair → ℕ → Bool → List MsrPair
+with_pair ps number write = if has_msr ps number write then ps else ps ++ record { number = number; write = write } ∷ []
+
+abbrev pub with_pair_of : List MsrPair → Command → List MsrPair
+with_pair_of ps (Reg r v) = ps
+with_pair_of ps (Seg r s b l a) = ps
+with_pair_of ps (Table t b l) = ps
+with_pair_of ps (Poke a b) = ps
+with_pair_of ps (Dev s d a is) = ps
+with_pair_of ps (Icpt n) = ps
+with_pair_of ps (Unicpt n) = ps
+with_pair_of ps (Ioport l h) = ps
+with_pair_of ps (Icptmsr d n) = with_pair ps n (is_write d)
+with_pair_of ps (Batch n) = ps
+with_pair_of ps (Run n) = ps
+with_pair_of ps Call = ps
+with_pair_of ps Show = ps
+with_pair_of ps (Dump a n) = ps
+
+-- the different pairs that commands name
+abbrev pub pairs_of : List Command → List MsrPair
+pairs_of cs = fold with_pair_of [] cs
+
 -- how many items, and how many steps, a command has
 abbrev pub item_count : Command → ℕ
 item_count (Reg r v) = 0
@@ -51,6 +82,11 @@ item_count (Seg r s b l a) = 0
 item_count (Table t b l) = 0
 item_count (Poke a b) = 0
 item_count (Dev s d a is) = length is.items
+item_count (Icpt n) = 0
+item_count (Unicpt n) = 0
+item_count (Ioport l h) = 0
+item_count (Icptmsr d n) = 0
+item_count (Batch n) = 0
 item_count (Run n) = 0
 item_count Call = 0
 item_count Show = 0
@@ -62,14 +98,19 @@ step_count (Seg r s b l a) = 0
 step_count (Table t b l) = 0
 step_count (Poke a b) = 0
 step_count (Dev s d a is) = 0
+step_count (Icpt n) = 0
+step_count (Unicpt n) = 0
+step_count (Ioport l h) = 0
+step_count (Icptmsr d n) = 0
+step_count (Batch n) = 0
 step_count (Run n) = n
 step_count Call = 0
 step_count Show = 0
 step_count (Dump a n) = 0
 
--- at most 4,096 commands, 4,096 items, 1,000,000 steps and 256 different queues
+-- at most 4,096 commands, 4,096 items, 1,000,000 steps, 256 different queues and 64 different pairs
 unfoldable pub is_too_many : List Command → Command → Bool
-is_too_many cs c = nat_le 4096 (length cs) || nat_lt 4096 (sum_by item_count cs + item_count c) || nat_lt 1000000 (sum_by step_count cs + step_count c) || nat_lt 256 (length (with_queue_of (queues_of cs) c))
+is_too_many cs c = nat_le 4096 (length cs) || nat_lt 4096 (sum_by item_count cs + item_count c) || nat_lt 1000000 (sum_by step_count cs + step_count c) || nat_lt 256 (length (with_queue_of (queues_of cs) c)) || nat_lt 64 (length (with_pair_of (pairs_of cs) c))
 
 -- the content with what one line says
 unfoldable pub put : Content → Entry → Result Content Reason

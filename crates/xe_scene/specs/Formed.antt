@@ -5,7 +5,7 @@ use Rattle.std.specs.Prelude.{◌≤◌, ◌<◌, All, IsTrue, length}
 use Rattle.xe_base.specs.Access.{is_msr}
 use Rattle.xe_base.specs.declared.access.Space.{Space}
 use Rattle.xe_scene.specs.declared.command.Command.{Command}
-use Rattle.xe_scene.specs.declared.command.Command.TheVariants.{Reg, Seg, Table, Poke, Dev, Run, Call, Show, Dump}
+use Rattle.xe_scene.specs.declared.command.Command.TheVariants.{Reg, Seg, Table, Poke, Dev, Icpt, Unicpt, Ioport, Icptmsr, Batch, Run, Call, Show, Dump}
 use Rattle.xe_scene.specs.declared.command.Item.{Item}
 use Rattle.xe_scene.specs.declared.command.Item.TheVariants.{Wait, Value, No, Fail}
 use Rattle.xe_scene.specs.declared.words.Entry.{Entry}
@@ -26,6 +26,11 @@ IsFormed (Seg r selector base limit attr) = (selector ≤ 0xffff) × (limit ≤ 
 IsFormed (Table t base limit) = limit ≤ 0xffff
 IsFormed (Poke a bytes) = 0 < length bytes.items
 IsFormed (Dev s d a items) = (0 < length items.items) × All (IsItemFor s) items.items
+IsFormed (Icpt n) = Unit {0}
+IsFormed (Unicpt n) = Unit {0}
+IsFormed (Ioport low high) = (low ≤ high) × (high ≤ 0xffff)
+IsFormed (Icptmsr d number) = number ≤ 0xffff_ffff
+IsFormed (Batch n) = (0 < n) × (n ≤ 1000)
 IsFormed (Run n) = (0 < n) × (n ≤ 1000000)
 IsFormed Call = Unit {0}
 IsFormed Show = Unit {0}

@@ -1,11 +1,13 @@
--- The names of commands, registers, spaces and directions. Registers have the names of the SDM in lower case, as the trace prints
+-- The names of commands, registers, intercepts, spaces and directions. Registers have the names of the SDM in lower case, as the trace prints
 -- them; the other names are short words, of which a line has many.
-use Rattle.std.specs.Prelude.{ℕ, ◌||◌, Bool, if◌then◌else◌, List, Result, Ok, Err, codes}
+use Rattle.std.specs.Prelude.{ℕ, if◌then◌else◌, List, Option, Some, None, Result, Ok, Err, codes}
 use Rattle.std.specs.Str.{bytes_eq}
 use Rattle.xe_base.specs.declared.access.Space.{Space}
 use Rattle.xe_base.specs.declared.access.Space.TheVariants.{Mem, Port, Msr, Cpuid}
+use Rattle.xe_icpt.specs.SvmNames.{svm_bit}
+use Rattle.xe_icpt.specs.declared.svm_name.SvmName.{SvmName}
 use Rattle.xe_scene.specs.declared.reason.Reason.{Reason}
-use Rattle.xe_scene.specs.declared.reason.Reason.TheVariants.{UnknownCommand, UnknownName, NotBuilt}
+use Rattle.xe_scene.specs.declared.reason.Reason.TheVariants.{UnknownCommand, UnknownName}
 use Rattle.xe_scene.specs.declared.names.CommandName.{CommandName}
 use Rattle.xe_scene.specs.declared.names.CommandName.TheVariants as commands
 use Rattle.xe_scene.specs.declared.command.RegName.{RegName}
@@ -17,19 +19,19 @@ use Rattle.xe_scene.specs.declared.command.DtName.TheVariants.{Gdtr, Idtr}
 use Rattle.xe_scene.specs.declared.command.Dir.{Dir}
 use Rattle.xe_scene.specs.declared.command.Dir.TheVariants.{Read, Write}
 
--- the commands that are known and not built
-abbrev pub is_unbuilt : List ℕ → Bool
-is_unbuilt name = bytes_eq name (codes "batch") || bytes_eq name (codes "icpt") || bytes_eq name (codes "unicpt") || bytes_eq name (codes "ioport") || bytes_eq name (codes "icptmsr")
-
 unfoldable pub command_name : List ℕ → Result CommandName Reason
 command_name word =
-    if is_unbuilt word then Err NotBuilt
+    if bytes_eq word (codes "unicpt") then Ok commands.Unicpt
+    else if bytes_eq word (codes "ioport") then Ok commands.Ioport
+    else if bytes_eq word (codes "icptmsr") then Ok commands.Icptmsr
     else if bytes_eq word (codes "ram") then Ok commands.Ram
     else if bytes_eq word (codes "reg") then Ok commands.Reg
     else if bytes_eq word (codes "seg") then Ok commands.Seg
     else if bytes_eq word (codes "table") then Ok commands.Table
     else if bytes_eq word (codes "poke") then Ok commands.Poke
     else if bytes_eq word (codes "dev") then Ok commands.Dev
+    else if bytes_eq word (codes "icpt") then Ok commands.Icpt
+    else if bytes_eq word (codes "batch") then Ok commands.Batch
     else if bytes_eq word (codes "run") then Ok commands.Run
     else if bytes_eq word (codes "call") then Ok commands.Call
     else if bytes_eq word (codes "show") then Ok commands.Show
@@ -126,3 +128,12 @@ direction_of word =
     if bytes_eq word (codes "r") then Ok Read
     else if bytes_eq word (codes "w") then Ok Write
     else Err UnknownName
+
+-- the intercept with these bits, where there is one
+abbrev pub intercept_of : Option ℕ → Result SvmName Reason
+intercept_of None = Err UnknownName
+intercept_of (Some bits) = Ok (record { 0 = bits })
+
+-- an intercept has the name that the table of intercepts gives it
+unfoldable pub intercept_name : List ℕ → Result SvmName Reason
+intercept_name word = intercept_of (svm_bit word)

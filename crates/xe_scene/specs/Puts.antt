@@ -1,7 +1,6 @@
 -- What the reader of a line answers.
 use Rattle.std.specs.Prelude.{◌≡◌, List, [], ◌∷◌, ◌++◌, Option, Some, None, Result, Ok, Err}
 use Rattle.xe_scene.specs.declared.reason.Reason.{Reason}
-use Rattle.xe_scene.specs.declared.queue.QueueName.{QueueName}
 use Rattle.xe_scene.specs.declared.reader.LineFault.{LineFault}
 use Rattle.xe_scene.specs.declared.reader.LineFault.TheVariants.{NoMemory, Bad}
 use Rattle.xe_scene.specs.Content.{Content}
@@ -13,6 +12,6 @@ Puts (Err NoMemory) said new = Unit {0}
 Puts (Err (Bad r)) said new = said ≡ Err r
 
 -- a list with one more, if there is one
-abbrev pub with_new : List QueueName → Option QueueName → List QueueName
+abbrev pub with_new : {A : Type 0} → List A → Option A → List A
 with_new qs None = qs
 with_new qs (Some q) = qs ++ q ∷ []

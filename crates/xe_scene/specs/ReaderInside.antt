@@ -3,7 +3,7 @@
 use Rattle.std.specs.Prelude.{◌≡◌, ◌≤◌, All, length, sum_by, vec_len}
 use Rattle.xe_mem.specs.Layout.{IsLayout, end_behind, total}
 use Rattle.xe_scene.specs.declared.reader.Reader.TheInside.{Inside}
-use Rattle.xe_scene.specs.Content.{Content, item_count, step_count, queues_of}
+use Rattle.xe_scene.specs.Content.{Content, item_count, step_count, queues_of, pairs_of}
 use Rattle.xe_scene.specs.Formed.{IsFormed}
 
 abbrev pub content : Inside → Content
@@ -22,3 +22,5 @@ pub record IsCounted (r : Inside) : Type 0 where
   pub steps_most : r.steps ≤ 1000000
   pub queues : r.queues.items ≡ queues_of r.commands.items
   pub queues_most : length r.queues.items ≤ 256
+  pub pairs : r.pairs.items ≡ pairs_of r.commands.items
+  pub pairs_most : length r.pairs.items ≤ 64

@@ -1,7 +1,7 @@
 -- The numbers of the reasons for which a line is refused, as a refusal prints them (docs/SCENARIO.md, "Refusals").
 use Rattle.std.specs.Prelude.{ℕ}
 use Rattle.xe_scene.specs.declared.reason.Reason.{Reason}
-use Rattle.xe_scene.specs.declared.reason.Reason.TheVariants.{Header, BadByte, LongLine, Spacing, UnknownCommand, WordCount, UnknownName, BadNumber, BadBytes, BadRegion, TooMuchRam, LateRam, TooMany, TooLong, NotBuilt}
+use Rattle.xe_scene.specs.declared.reason.Reason.TheVariants.{Header, BadByte, LongLine, Spacing, UnknownCommand, WordCount, UnknownName, BadNumber, BadBytes, BadRegion, TooMuchRam, LateRam, TooMany, TooLong}
 
 abbrev pub reason_number : Reason → ℕ
 reason_number Header = 1
@@ -18,4 +18,3 @@ reason_number TooMuchRam = 11
 reason_number LateRam = 12
 reason_number TooMany = 13
 reason_number TooLong = 14
-reason_number NotBuilt = 15

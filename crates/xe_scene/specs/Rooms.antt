@@ -3,7 +3,7 @@
 use Rattle.std.specs.Prelude.{ℕ, if◌then◌else◌, List, length, sum_by}
 use Rattle.xe_ctx.specs.Tape.{Key, same_key}
 use Rattle.xe_scene.specs.declared.command.Command.{Command}
-use Rattle.xe_scene.specs.declared.command.Command.TheVariants.{Reg, Seg, Table, Poke, Dev, Run, Call, Show, Dump}
+use Rattle.xe_scene.specs.declared.command.Command.TheVariants.{Reg, Seg, Table, Poke, Dev, Icpt, Unicpt, Ioport, Icptmsr, Batch, Run, Call, Show, Dump}
 use Rattle.xe_scene.specs.Queues.{key_of_queue}
 
 -- how many items a command feeds to a queue
@@ -13,6 +13,11 @@ fed_by k (Seg r s b l a) = 0
 fed_by k (Table t b l) = 0
 fed_by k (Poke a b) = 0
 fed_by k (Dev s d a is) = if same_key k (key_of_queue s d a) then length is.items else 0
+fed_by k (Icpt n) = 0
+fed_by k (Unicpt n) = 0
+fed_by k (Ioport l h) = 0
+fed_by k (Icptmsr d n) = 0
+fed_by k (Batch n) = 0
 fed_by k (Run n) = 0
 fed_by k Call = 0
 fed_by k Show = 0

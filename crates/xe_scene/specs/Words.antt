@@ -4,17 +4,18 @@ use Rattle.std.specs.Prelude.{ℕ, ◌==◌, ◌||◌, nat_lt, Bool, if◌then�
 use Rattle.std.specs.Str.{bytes_eq}
 use Rattle.xe_base.specs.Access.{is_msr}
 use Rattle.xe_base.specs.declared.access.Space.{Space}
+use Rattle.xe_icpt.specs.declared.svm_name.SvmName.{SvmName}
 use Rattle.xe_scene.specs.declared.reason.Reason.{Reason}
 use Rattle.xe_scene.specs.declared.reason.Reason.TheVariants.{UnknownCommand, WordCount, UnknownName, BadNumber, BadBytes, LateRam, TooMany}
 use Rattle.xe_scene.specs.declared.command.Item.{Item}
 use Rattle.xe_scene.specs.declared.command.Item.TheVariants.{Wait, Value, No, Fail}
-use Rattle.xe_scene.specs.declared.command.Command.TheVariants.{Reg, Seg, Table, Poke, Dev, Run, Call, Show, Dump}
+use Rattle.xe_scene.specs.declared.command.Command.TheVariants.{Reg, Seg, Table, Poke, Dev, Icpt, Unicpt, Ioport, Icptmsr, Batch, Run, Call, Show, Dump}
 use Rattle.xe_scene.specs.declared.words.Entry.{Entry}
 use Rattle.xe_scene.specs.declared.words.Entry.TheVariants.{Ram, Obey}
 use Rattle.xe_scene.specs.declared.names.CommandName.{CommandName}
 use Rattle.xe_scene.specs.declared.names.CommandName.TheVariants as commands
 use Rattle.xe_scene.specs.Chain.{◌>>=◌}
-use Rattle.xe_scene.specs.Names.{command_name, register_name, register_most, segment_name, table_name, space_of, direction_of}
+use Rattle.xe_scene.specs.Names.{command_name, register_name, register_most, segment_name, table_name, space_of, direction_of, intercept_name}
 use Rattle.xe_scene.specs.Numbers.{hex_number, decimal_number, bytes_of}
 
 -- the value, or the reason why there is none
@@ -118,6 +119,54 @@ device_of (space ∷ direction ∷ address ∷ items) =
       Ok (Obey (Dev s d a (record { items = is }))))
 device_of words = Err WordCount
 
+-- icpt NAME and unicpt NAME
+unfoldable pub intercept_of : List (List ℕ) → Result SvmName Reason
+intercept_of (name ∷ []) = intercept_name name
+intercept_of words = Err WordCount
+
+unfoldable pub set_of : List (List ℕ) → Result Entry Reason
+set_of words = do
+  n ← intercept_of words
+  Ok (Obey (Icpt n))
+
+unfoldable pub clear_of : List (List ℕ) → Result Entry Reason
+clear_of words = do
+  n ← intercept_of words
+  Ok (Obey (Unicpt n))
+
+-- the last port is not below the first
+unfoldable pub ports_from : List ℕ → List ℕ → Result Entry Reason
+ports_from low high = do
+  l ← number_up_to 0xffff low
+  h ← number_up_to 0xffff high
+  if nat_lt h l then Err BadNumber else Ok (Obey (Ioport l h))
+
+-- ioport LOW HIGH
+unfoldable pub ports_of : List (List ℕ) → Result Entry Reason
+ports_of (low ∷ high ∷ []) = ports_from low high
+ports_of words = Err WordCount
+
+unfoldable pub msr_with : List ℕ → List ℕ → Result Entry Reason
+msr_with direction number = do
+  d ← direction_of direction
+  n ← number_up_to 0xffff_ffff number
+  Ok (Obey (Icptmsr d n))
+
+-- icptmsr DIR NUMBER
+unfoldable pub msr_of : List (List ℕ) → Result Entry Reason
+msr_of (direction ∷ number ∷ []) = msr_with direction number
+msr_of words = Err WordCount
+
+-- the steps of a turn: 1 to 1000
+abbrev pub turn_of : Option ℕ → Result Entry Reason
+turn_of None = Err BadNumber
+turn_of (Some n) = if n == 0 then Err BadNumber else if nat_lt 1000 n then Err BadNumber else Ok (Obey (Batch n))
+
+-- batch N
+unfoldable pub batch_of : List (List ℕ) → Result Entry Reason
+batch_of (count ∷ []) = turn_of (decimal_number count)
+batch_of words = Err WordCount
+
 -- the steps of a run: one at least; more than a scene may have is too many, and no bad number
 abbrev pub steps_of : Option ℕ → Result Entry Reason
 steps_of None = Err BadNumber
@@ -162,6 +211,11 @@ said_by late commands.Seg words = segment_of words
 said_by late commands.Table words = table_of words
 said_by late commands.Poke words = poke_of words
 said_by late commands.Dev words = device_of words
+said_by late commands.Icpt words = set_of words
+said_by late commands.Unicpt words = clear_of words
+said_by late commands.Ioport words = ports_of words
+said_by late commands.Icptmsr words = msr_of words
+said_by late commands.Batch words = batch_of words
 said_by late commands.Run words = run_of words
 said_by late commands.Call words = call_of words
 said_by late commands.Show words = show_of words

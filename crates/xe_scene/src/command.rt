@@ -6,6 +6,7 @@ ghost use Rattle.xe_scene.specs.Queues.{is_write};
 use arrayvec::ArrayVec;
 use std::marker::Model;
 use xe_base::Space;
+use xe_icpt::SvmName;
 use xe_mem::Region;
 
 /// A register that a scene sets by its name.
@@ -104,6 +105,16 @@ pub enum Command {
     Poke(u64, ArrayVec<u8, 64>),
     /// Appends 1 to 16 items to the queue of a space, a direction and an address.
     Dev(Space, Dir, u64, ArrayVec<Item, 16>),
+    /// Sets an intercept.
+    Icpt(SvmName),
+    /// Clears an intercept.
+    Unicpt(SvmName),
+    /// Sets the bits of the ports from the first to the second, which is not below it; both at most FFFFh.
+    Ioport(u64, u64),
+    /// Adds a model-specific register, at most FFFFFFFFh, with a direction.
+    Icptmsr(Dir, u64),
+    /// Sets how many steps a turn takes at most, 1 to 1000.
+    Batch(u64),
     /// Runs up to so many steps, 1 to 1,000,000.
     Run(u64),
     /// Makes one call of the emulator, which keeps the record of a suspended step.

@@ -1,12 +1,14 @@
-//! The names of commands, registers, spaces and directions.
+//! The names of commands, registers, intercepts, spaces and directions.
 ghost use Rattle.std.specs.Prelude.{◌≡◌};
 ghost use Rattle.xe_scene.specs.Names as spec;
 
 use crate::command::{Dir, DtName, RegName, SegReg};
 use crate::reason::Reason;
+use bitflags::Flags;
 use xe_base::Space;
+use xe_icpt::SvmName;
 
-/// A command that is built.
+/// The name of a command.
 #[derive(Clone, Copy)]
 pub(crate) enum CommandName {
     Ram,
@@ -15,29 +17,29 @@ pub(crate) enum CommandName {
     Table,
     Poke,
     Dev,
+    Icpt,
+    Unicpt,
+    Ioport,
+    Icptmsr,
+    Batch,
     Run,
     Call,
     Show,
     Dump,
 }
 
-/// Whether a command of this name is known, but not built.
-fn is_unbuilt(name: &[u8]) -> bool
-    ensures { result ≡ spec.is_unbuilt name.now }
-{
-    name == b"batch".as_slice()
-        || name == b"icpt".as_slice()
-        || name == b"unicpt".as_slice()
-        || name == b"ioport".as_slice()
-        || name == b"icptmsr".as_slice()
-}
-
 #[tactic(auto, unfolding(crate::specs::Names::command_name))]
 pub(crate) fn command_name(word: &[u8]) -> Result<CommandName, Reason>
     ensures { result ≡ spec.command_name word.now }
 {
-    if is_unbuilt(word) {
-        return Err(Reason::NotBuilt);
+    if word == b"unicpt".as_slice() {
+        return Ok(CommandName::Unicpt);
+    }
+    if word == b"ioport".as_slice() {
+        return Ok(CommandName::Ioport);
+    }
+    if word == b"icptmsr".as_slice() {
+        return Ok(CommandName::Icptmsr);
     }
     match word {
         b"ram" => Ok(CommandName::Ram),
@@ -46,6 +48,8 @@ pub(crate) fn command_name(word: &[u8]) -> Result<CommandName, Reason>
         b"table" => Ok(CommandName::Table),
         b"poke" => Ok(CommandName::Poke),
         b"dev" => Ok(CommandName::Dev),
+        b"icpt" => Ok(CommandName::Icpt),
+        b"batch" => Ok(CommandName::Batch),
         b"run" => Ok(CommandName::Run),
         b"call" => Ok(CommandName::Call),
         b"show" => Ok(CommandName::Show),
@@ -150,5 +154,15 @@ pub(crate) fn direction_of(word: &[u8]) -> Result<Dir, Reason>
         b"r" => Ok(Dir::Read),
         b"w" => Ok(Dir::Write),
         _ => Err(Reason::UnknownName),
+    }
+}
+
+/// The intercept of a name. Text that is no UTF-8 is the name of none.
+pub(crate) fn intercept_name(word: &[u8]) -> Result<SvmName, Reason>
+    ensures { result ≡ spec.intercept_name word.now }
+{
+    match str::from_utf8(word) {
+        Ok(name) => SvmName::from_name(name).ok_or(Reason::UnknownName),
+        Err(_) => Err(Reason::UnknownName),
     }
 }

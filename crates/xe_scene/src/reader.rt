@@ -5,6 +5,7 @@ ghost use Rattle.xe_mem.specs.Layout.{IsLayout};
 ghost use Rattle.xe_scene.specs.Content as spec;
 ghost use Rattle.xe_scene.specs.Formed.{IsFormed, IsFormedEntry};
 ghost use Rattle.xe_scene.specs.Queues.{same_queue};
+ghost use Rattle.xe_icpt.specs.SvmSet.{has_msr};
 ghost use Rattle.xe_scene.specs.Puts.{Puts, with_new};
 ghost use Rattle.xe_scene.specs.Faults.{content_of};
 ghost use Rattle.xe_scene.specs.declared.reader.LineFault.TheVariants.{NoMemory};
@@ -16,6 +17,7 @@ use crate::words::{Entry, entry_of};
 use arrayvec::ArrayVec;
 use std::alloc::{AllocError, AllocFailed, Global};
 use std::marker::Model;
+use xe_icpt::MsrPair;
 use xe_mem::{MAX_BYTES, MAX_REGIONS, Region};
 
 /// Why a line was not read.
@@ -56,6 +58,8 @@ pub(crate) struct Reader {
     steps: u64,
     /// The different queues.
     queues: ArrayVec<QueueName, 256>,
+    /// The different pairs of a model-specific register and a direction.
+    pairs: ArrayVec<MsrPair, 64>,
 }
 
 impl Model for Reader {
@@ -80,6 +84,11 @@ fn item_count(command: &Command) -> usize
         | Command::Seg(..)
         | Command::Table(..)
         | Command::Poke(..)
+        | Command::Icpt(_)
+        | Command::Unicpt(_)
+        | Command::Ioport(..)
+        | Command::Icptmsr(..)
+        | Command::Batch(_)
         | Command::Run(_)
         | Command::Call
         | Command::Show
@@ -97,6 +106,11 @@ fn step_count(command: &Command) -> u64
         | Command::Table(..)
         | Command::Poke(..)
         | Command::Dev(..)
+        | Command::Icpt(_)
+        | Command::Unicpt(_)
+        | Command::Ioport(..)
+        | Command::Icptmsr(..)
+        | Command::Batch(_)
         | Command::Call
         | Command::Show
         | Command::Dump(..) => 0,
@@ -115,6 +129,11 @@ fn new_queue(queues: &[QueueName], command: &Command) -> Option<QueueName>
         | Command::Seg(..)
         | Command::Table(..)
         | Command::Poke(..)
+        | Command::Icpt(_)
+        | Command::Unicpt(_)
+        | Command::Ioport(..)
+        | Command::Icptmsr(..)
+        | Command::Batch(_)
         | Command::Run(_)
         | Command::Call
         | Command::Show
@@ -130,6 +149,74 @@ fn another_queue(queues: &[QueueName], queue: QueueName) -> Option<QueueName>
         None
     } else {
         Some(queue)
+    }
+}
+
+/// The pair of a model-specific register and a direction that a command names and that isn't one of these.
+fn new_pair(pairs: &[MsrPair], command: &Command) -> Option<MsrPair>
+    requires { IsFormed command.now }
+    ensures { spec.with_pair_of pairs.now command.now ≡ with_new pairs.now result }
+{
+    match command {
+        Command::Icptmsr(dir, number) => another_pair(
+            pairs,
+            MsrPair {
+                number: *number as u32,
+                write: dir.is_write(),
+            },
+        ),
+        Command::Reg(..)
+        | Command::Seg(..)
+        | Command::Table(..)
+        | Command::Poke(..)
+        | Command::Dev(..)
+        | Command::Icpt(_)
+        | Command::Unicpt(_)
+        | Command::Ioport(..)
+        | Command::Batch(_)
+        | Command::Run(_)
+        | Command::Call
+        | Command::Show
+        | Command::Dump(..) => None,
+    }
+}
+
+/// The pair, where it isn't one of these.
+fn another_pair(pairs: &[MsrPair], pair: MsrPair) -> Option<MsrPair>
+    ensures { result ≡ (if has_msr pairs.now pair.number pair.write then None else Some pair) }
+{
+    if has_pair(pairs, pair) {
+        None
+    } else {
+        Some(pair)
+    }
+}
+
+fn has_pair(pairs: &[MsrPair], pair: MsrPair) -> bool
+    ensures { result ≡ has_msr pairs.now pair.number pair.write }
+{
+    pairs
+        .iter()
+        .any(|m| m.number == pair.number && m.write == pair.write)
+}
+
+/// One more queue is named, if it is new.
+fn note_queue(queues: &mut ArrayVec<QueueName, 256>, queue: Option<QueueName>)
+    requires { length (with_new queues.old.items queue) ≤ 256 }
+    ensures { queues.new.items ≡ with_new queues.old.items queue }
+{
+    if let Some(queue) = queue {
+        queues.push(queue);
+    }
+}
+
+/// One more pair is named, if it is new.
+fn note_pair(pairs: &mut ArrayVec<MsrPair, 64>, pair: Option<MsrPair>)
+    requires { length (with_new pairs.old.items pair) ≤ 64 }
+    ensures { pairs.new.items ≡ with_new pairs.old.items pair }
+{
+    if let Some(pair) = pair {
+        pairs.push(pair);
     }
 }
 
@@ -151,6 +238,7 @@ impl Reader {
             items: 0,
             steps: 0,
             queues: ArrayVec::new(),
+            pairs: ArrayVec::new(),
         }
     }
 
@@ -184,10 +272,13 @@ impl Reader {
         if queue.is_some() && self.queues.len() >= 256 {
             return Err(LineFault::Bad(Reason::TooMany));
         }
-        self.commands.push(command)?;
-        if let Some(queue) = queue {
-            self.queues.push(queue);
+        let pair = new_pair(&self.pairs, &command);
+        if pair.is_some() && self.pairs.len() >= 64 {
+            return Err(LineFault::Bad(Reason::TooMany));
         }
+        self.commands.push(command)?;
+        note_queue(&mut self.queues, queue);
+        note_pair(&mut self.pairs, pair);
         self.items = items;
         self.steps = steps;
         Ok(())
@@ -253,6 +344,7 @@ impl Reader {
             items: _,
             steps: _,
             queues: _,
+            pairs: _,
         } = self;
         Scene {
             regions,

@@ -19,7 +19,6 @@ pub enum Reason {
     LateRam,
     TooMany,
     TooLong,
-    NotBuilt,
 }
 
 impl Reason {
@@ -42,7 +41,6 @@ impl Reason {
             Reason::LateRam => 12,
             Reason::TooMany => 13,
             Reason::TooLong => 14,
-            Reason::NotBuilt => 15,
         }
     }
 }

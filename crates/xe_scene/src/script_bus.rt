@@ -150,6 +150,11 @@ fn make_room(queues: &mut Queues, alloc: Global, command: &Command) -> Result<()
         | Command::Seg(..)
         | Command::Table(..)
         | Command::Poke(..)
+        | Command::Icpt(_)
+        | Command::Unicpt(_)
+        | Command::Ioport(..)
+        | Command::Icptmsr(..)
+        | Command::Batch(_)
         | Command::Run(_)
         | Command::Call
         | Command::Show

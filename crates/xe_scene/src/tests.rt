@@ -53,7 +53,7 @@ fn without_newline(text: &[u8]) -> &[u8] {
 }
 
 /// Each reason, by a text that is refused for it.
-const REFUSED: [(&[u8], u32, u8); 15] = [
+const REFUSED: [(&[u8], u32, u8); 19] = [
     (b"x86emu 2\n", 1, 1),
     (b"x86emu 1\nshow\t\n", 2, 2),
     (
@@ -72,7 +72,11 @@ const REFUSED: [(&[u8], u32, u8); 15] = [
     (b"x86emu 1\nram 0 1001000\n", 2, 11),
     (b"x86emu 1\nshow\nram x 0\n", 3, 12),
     (b"x86emu 1\nrun 1000000\nrun 1\n", 3, 13),
-    (b"x86emu 1\nbatch no x\n", 2, 15),
+    (b"x86emu 1\nbatch no x\n", 2, 6),
+    (b"x86emu 1\nbatch 1001\n", 2, 8),
+    (b"x86emu 1\nicpt vmrun\n", 2, 7),
+    (b"x86emu 1\nioport 61 60\n", 2, 8),
+    (b"x86emu 1\nicptmsr r 100000000\n", 2, 8),
 ];
 
 #[test]

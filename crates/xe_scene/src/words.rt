@@ -7,13 +7,14 @@ ghost use Rattle.xe_scene.specs.Agrees.{Agrees};
 
 use crate::command::{Command, Item};
 use crate::names::{
-    CommandName, command_name, direction_of, register_most, register_name, segment_name, space_of,
-    table_name,
+    CommandName, command_name, direction_of, intercept_name, register_most, register_name,
+    segment_name, space_of, table_name,
 };
 use crate::number::{bytes_of, decimal_number, hex_number};
 use crate::reason::Reason;
 use arrayvec::ArrayVec;
 use xe_base::Space;
+use xe_icpt::SvmName;
 use xe_mem::Region;
 
 /// What a line adds to the scene.
@@ -226,6 +227,98 @@ fn device_of(words: &[&[u8]]) -> Result<Entry, Reason>
     }
 }
 
+/// `icpt NAME` and `unicpt NAME`
+#[tactic(auto, unfolding(crate::specs::Words::intercept_of))]
+fn intercept_of(words: &[&[u8]]) -> Result<SvmName, Reason>
+    ensures { result ≡ spec.intercept_of (map (λ w. w.now) words.now) }
+{
+    match words {
+        [name] => intercept_name(name),
+        _ => Err(Reason::WordCount),
+    }
+}
+
+#[tactic(auto, unfolding(crate::specs::Words::set_of))]
+fn set_of(words: &[&[u8]]) -> Result<Entry, Reason>
+    ensures value { result ≡ spec.set_of (map (λ w. w.now) words.now) }
+    ensures formed { IfOk result IsFormedEntry }
+{
+    let name = intercept_of(words)?;
+    Ok(Entry::Obey(Command::Icpt(name)))
+}
+
+#[tactic(auto, unfolding(crate::specs::Words::clear_of))]
+fn clear_of(words: &[&[u8]]) -> Result<Entry, Reason>
+    ensures value { result ≡ spec.clear_of (map (λ w. w.now) words.now) }
+    ensures formed { IfOk result IsFormedEntry }
+{
+    let name = intercept_of(words)?;
+    Ok(Entry::Obey(Command::Unicpt(name)))
+}
+
+#[tactic(auto, unfolding(crate::specs::Words::ports_from))]
+fn ports_from(low: &[u8], high: &[u8]) -> Result<Entry, Reason>
+    ensures value { result ≡ spec.ports_from low.now high.now }
+    ensures formed { IfOk result IsFormedEntry }
+{
+    let low = number_up_to(0xffff, low)?;
+    let last = number_up_to(0xffff, high)?;
+    if last < low {
+        return Err(Reason::BadNumber);
+    }
+    Ok(Entry::Obey(Command::Ioport(low, last)))
+}
+
+/// `ioport LOW HIGH`
+#[tactic(auto, unfolding(crate::specs::Words::ports_of))]
+fn ports_of(words: &[&[u8]]) -> Result<Entry, Reason>
+    ensures value { result ≡ spec.ports_of (map (λ w. w.now) words.now) }
+    ensures formed { IfOk result IsFormedEntry }
+{
+    match words {
+        [low, high] => ports_from(low, high),
+        _ => Err(Reason::WordCount),
+    }
+}
+
+#[tactic(auto, unfolding(crate::specs::Words::msr_with))]
+fn msr_with(direction: &[u8], number: &[u8]) -> Result<Entry, Reason>
+    ensures value { result ≡ spec.msr_with direction.now number.now }
+    ensures formed { IfOk result IsFormedEntry }
+{
+    let direction = direction_of(direction)?;
+    let number = number_up_to(0xffff_ffff, number)?;
+    Ok(Entry::Obey(Command::Icptmsr(direction, number)))
+}
+
+/// `icptmsr DIR NUMBER`
+#[tactic(auto, unfolding(crate::specs::Words::msr_of))]
+fn msr_of(words: &[&[u8]]) -> Result<Entry, Reason>
+    ensures value { result ≡ spec.msr_of (map (λ w. w.now) words.now) }
+    ensures formed { IfOk result IsFormedEntry }
+{
+    match words {
+        [direction, number] => msr_with(direction, number),
+        _ => Err(Reason::WordCount),
+    }
+}
+
+/// `batch N`
+#[tactic(auto, unfolding(crate::specs::Words::batch_of))]
+fn batch_of(words: &[&[u8]]) -> Result<Entry, Reason>
+    ensures value { result ≡ spec.batch_of (map (λ w. w.now) words.now) }
+    ensures formed { IfOk result IsFormedEntry }
+{
+    match words {
+        [count] => match decimal_number(count) {
+            None | Some(0) => Err(Reason::BadNumber),
+            Some(n) if n > 1000 => Err(Reason::BadNumber),
+            Some(n) => Ok(Entry::Obey(Command::Batch(n))),
+        },
+        _ => Err(Reason::WordCount),
+    }
+}
+
 /// `run N`
 #[tactic(auto, unfolding(crate::specs::Words::run_of))]
 fn run_of(words: &[&[u8]]) -> Result<Entry, Reason>
@@ -311,6 +404,11 @@ fn said_by(late: bool, name: CommandName, words: &[&[u8]]) -> Result<Entry, Reas
         CommandName::Table => table_of(words),
         CommandName::Poke => poke_of(words),
         CommandName::Dev => device_of(words),
+        CommandName::Icpt => set_of(words),
+        CommandName::Unicpt => clear_of(words),
+        CommandName::Ioport => ports_of(words),
+        CommandName::Icptmsr => msr_of(words),
+        CommandName::Batch => batch_of(words),
         CommandName::Run => run_of(words),
         CommandName::Call => call_of(words),
         CommandName::Show => show_of(words),

@@ -18,4 +18,6 @@ invariant_of-result c = record {
   steps_most = search rules;
   queues = search rules;
   queues_most = search rules;
+  pairs = search rules;
+  pairs_most = search rules;
 }

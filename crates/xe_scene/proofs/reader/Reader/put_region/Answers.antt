@@ -29,4 +29,6 @@ invariant_of-self c =
       steps_most = i.steps_most;
       queues = i.queues;
       queues_most = i.queues_most;
+      pairs = i.pairs;
+      pairs_most = i.pairs_most;
     }
