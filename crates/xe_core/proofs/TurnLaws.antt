@@ -31,11 +31,11 @@ goes-done o made h = more-done o (and-left (has_more o) (none_made made) h)
 
 -- ---- behind steps that finished
 
-both-zero : (b t : ℕ) → ((b + t) == 0) ≡ ((b == 0) && (t == 0))
+pub both-zero : (b t : ℕ) → ((b + t) == 0) ≡ ((b == 0) && (t == 0))
 both-zero zero t = grind (arith, nat_tests)
 both-zero (suc b) t = grind (arith, nat_tests)
 
-choose : (p q r : Bool) (x y z : Option Row) → p ≡ (r && q) → (if p then x else if q then y else z) ≡ (if q then (if r then x else y) else z)
+pub choose : (p q r : Bool) (x y z : Option Row) → p ≡ (r && q) → (if p then x else if q then y else z) ≡ (if q then (if r then x else y) else z)
 choose p true true x y z e = rw e refl
 choose p true false x y z e = rw e refl
 choose p false true x y z e = rw e refl

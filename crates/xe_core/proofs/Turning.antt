@@ -13,7 +13,7 @@ use Rattle.xe_ctx.specs.Tape.{Tape, Key}
 use Rattle.xe_ctx.specs.declared.report.Outcome.{Outcome}
 use Rattle.xe_ctx.specs.declared.report.Outcome.TheVariants as outcomes
 use Rattle.xe_ctx.specs.declared.report.Report.{Report}
-use Rattle.xe_core.specs.Call.{Call, Divergence, divergence, Fits, called, called_by, diverged, resuming, resumed, reported, lacking, lacking_last, Tells, Counted, steps_before, before_last, LeftBy, Played, Steady, has_finished, Completes, CompletesOver, Reports}
+use Rattle.xe_core.specs.Call.{Call, Divergence, divergence, Fits, called, called_by, diverged, resuming, resumed, reported, lacking, lacking_last, Tells, Counted, steps_before, before_last, alone, LeftBy, Played, Steady, has_finished, Completes, CompletesOver, Reports}
 use Rattle.xe_core.specs.Step.{Stepped, Ended, Ends, Wants, is_done, is_diverged}
 use Rattle.xe_core.specs.Tried.{is_plain, called_once, resumed_once, TellsOnce, ReportsOnce, behind_report, Did}
 use Rattle.xe_core.specs.Turn.{Steps, Turn, leaves_more, taken, behind, turn_of, turn, last_goes_on, after_steps, Silent, no_steps, one_more}
@@ -102,24 +102,28 @@ lacking-ends (outcomes.Diverged at kept wanted) e = refl
 abbrev behind_call : ℕ → Option Row → Call → Call
 behind_call k row c = record c { elements = k + c.elements; finished = if c.elements == 0 then row else c.finished }
 
-called-behind : (k : ℕ) (row : Option Row) (s : State) (o : Outcome) (came : Stepped) → called (lacking_last o (behind k row (taken s came))) ≡ behind_call k row (called_once s (lacking o came))
-called-behind k row s o (Ends e) = rw (lacking-ends o e) refl
-called-behind k row s (outcomes.Done more retire) (Wants w) = refl
-called-behind k row s (outcomes.Pending a) (Wants w) = refl
-called-behind k row s (outcomes.Fault x) (Wants w) = refl
-called-behind k row s (outcomes.Intercept x) (Wants w) = refl
-called-behind k row s (outcomes.Event kind vector next) (Wants w) = refl
-called-behind k row s (outcomes.Handoff x) (Wants w) = refl
-called-behind k row s outcomes.Unhandled (Wants w) = refl
-called-behind k row s (outcomes.BusFault a) (Wants w) = refl
-called-behind k row s (outcomes.Diverged at kept wanted) (Wants w) = refl
+-- a step, or the turn that it is, as a bus tells it that failed
+pub lacking_taken : (s : State) (o : Outcome) (came : Stepped) → lacking_last o (taken s came) ≡ taken s (lacking o came)
+lacking_taken s o (Ends e) = rw (lacking-ends o e) refl
+lacking_taken s (outcomes.Done more retire) (Wants w) = refl
+lacking_taken s (outcomes.Pending a) (Wants w) = refl
+lacking_taken s (outcomes.Fault x) (Wants w) = refl
+lacking_taken s (outcomes.Intercept x) (Wants w) = refl
+lacking_taken s (outcomes.Event kind vector next) (Wants w) = refl
+lacking_taken s (outcomes.Handoff x) (Wants w) = refl
+lacking_taken s outcomes.Unhandled (Wants w) = refl
+lacking_taken s (outcomes.BusFault a) (Wants w) = refl
+lacking_taken s (outcomes.Diverged at kept wanted) (Wants w) = refl
 
 called-over : (k : ℕ) (row : Option Row) (s : State) (came : Stepped) → called (behind k row (taken s came)) ≡ behind_call k row (called_once s came)
 called-over k row s (Ends e) = refl
 called-over k row s (Wants w) = refl
 
+called-behind : (k : ℕ) (row : Option Row) (s : State) (o : Outcome) (came : Stepped) → called (lacking_last o (behind k row (taken s came))) ≡ behind_call k row (called_once s (lacking o came))
+called-behind k row s o came = ap (λ t. called (behind k row t)) (lacking_taken s o came) ∙ called-over k row s (lacking o came)
+
 -- what a call says of whether a turn goes on behind it
-goes-as : (s : State) (o : Outcome) (came : Stepped) (c : Call) → called_once s (lacking o came) ≡ c → leaves_more c.outcome c.accesses ≡ false → last_goes_on came ≡ false
+pub goes-as : (s : State) (o : Outcome) (came : Stepped) (c : Call) → called_once s (lacking o came) ≡ c → leaves_more c.outcome c.accesses ≡ false → last_goes_on came ≡ false
 goes-as s o (Ends e) c h un =
     let same : called_once s (Ends e) ≡ c = ap (called_once s) (sym (lacking-ends o e)) ∙ h in
     ap (λ (d : Call). leaves_more d.outcome d.accesses) same ∙ un
@@ -288,6 +292,9 @@ module _ (steps : Steps) (first : State) (K : Kept) (begun : BusView) where
         | inr t ↦ let e = undone-once t in rw t (omega arith)
       ]
 
+      within-so : steps_before (behind_report f d.report) < n
+      within-so = let e = before-count in omega arith
+
       before-is : before_last steps first (behind_report f d.report) ≡ s
       before-is =
           let e : f.elements ≡ f.elements + 0 = omega arith in
@@ -353,6 +360,29 @@ module _ (steps : Steps) (first : State) (K : Kept) (begun : BusView) where
               over-last x (Ends e) h c = sym (ap (λ (k : Call). is_done k.outcome) c) ∙ h
               over-last x (Wants w) h c = cc
 
+      alone-is : alone (behind_report f d.report) ≡ d.report
+      alone-is = let e = once.one in let h = once.finished in rw (← e, ← h) refl
+
+      over-so : leaves_more d.report.outcome d.report.accesses.items ≡ true → f.elements + d.report.elements ≡ n
+      over-so m = elim last [
+        | inl t ↦ let un : true ≡ false = sym m ∙ d.went.1 t in absurd (cc)
+        | inr e ↦ let h = done-once (goes-done d.report.outcome d.report.accesses.items m) in omega arith
+      ]
+
+      -- the step is a call of its own
+      one-step : (supply : Supply) → turn steps 1 s supply ≡ taken s (steps s supply)
+      one-step supply = let e : 1 - 1 ≡ 0 = omega arith in ap (λ k. turn_of steps k s supply) e ∙ single steps 0 s supply (inl refl)
+
+      last-so : (o : Option Divergence) → TellsOnce o (steps s) s K d.report after kept → Tells o steps 1 s K d.report after kept
+      last-so (Some x) h = h
+      last-so None (rest, front, h) = (rest, front,
+          ap (λ t. called (lacking_last d.report.outcome t)) (one-step (answers_alone (answers d.report.accesses.items))) ∙ ap called (lacking_taken s d.report.outcome (steps s (answers_alone (answers d.report.accesses.items)))) ∙ h)
+
+      last-there : Tells (divergence (steps (before_last steps first (behind_report f d.report))) K) steps 1 (before_last steps first (behind_report f d.report)) K (alone (behind_report f d.report)) after kept
+      last-there =
+          let here : Tells (divergence (steps s) K) steps 1 s K (alone (behind_report f d.report)) after kept = subst (λ (r : Report). Tells (divergence (steps s) K) steps 1 s K r after kept) (sym alone-is) (last-so (divergence (steps s) K) once.tells) in
+          subst (λ (x : State). Tells (divergence (steps x) K) steps 1 x K (alone (behind_report f d.report)) after kept) (sym before-is) here
+
       -- what the call reports
       pub turn_ends : Reports steps n first K begun told after kept new
       turn_ends = rw d.went.0 (record {
@@ -372,9 +402,9 @@ module _ (steps : Steps) (first : State) (K : Kept) (begun : BusView) where
         counted = counted-more d.report.outcome begun b new g.unready_ g.faults_ once.counted;
         well_made = once.well_made;
         few = few-so;
-        alone = alone-so;
+        single = alone-so;
         stays = stays;
-        led = record { row = f.finished; silent = silent-so; finished = finished-so };
+        led = record { row = f.finished; silent = silent-so; within = within-so; finished = finished-so; over = over-so; last = last-there };
         fits_ = fits-so;
         asks = rw before-is once.asks;
         stands = rw before-is once.stands;

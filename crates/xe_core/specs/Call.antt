@@ -8,7 +8,7 @@ use Rattle.xe_ctx.specs.Bus.{BusView, Rose}
 use Rattle.xe_ctx.specs.Kept.{Kept, nothing, same_access}
 use Rattle.xe_ctx.specs.State.{State}
 use Rattle.xe_core.specs.Step.{Stepped, Ends, Wants, outcome_of, is_done, is_diverged}
-use Rattle.xe_core.specs.Turn.{Steps, Turn, turn, after_steps, Silent}
+use Rattle.xe_core.specs.Turn.{Steps, Turn, turn, leaves_more, after_steps, Silent}
 use Rattle.xe_ctx.specs.Supply.{Supply, Supplies, Lack, Lacks, Unanswered, Unready, Failing, answers_alone, answers, from_tape, next_answer}
 use Rattle.xe_ctx.specs.Tape.{Tape, Key}
 use Rattle.xe_ctx.specs.declared.report.Outcome.{Outcome}
@@ -186,11 +186,19 @@ steps_before r = if is_done r.outcome then r.elements - 1 else r.elements
 abbrev pub before_last : Steps → State → Report → State
 before_last steps s r = after_steps steps (steps_before r) s (answers_alone [])
 
--- each step before the last finished, left elements to be done and made no access; and which of all finished last
-pub record Led (steps : Steps) (s : State) (r : Report) : Type 0 where
+-- the report of the last step alone
+abbrev pub alone : Report → Report
+alone r = record r { elements = if is_done r.outcome then 1 else 0; finished = if is_done r.outcome then r.row else None }
+
+-- Each step before the last finished, left elements to be done and made no access. Behind the last one no other may follow, and from the
+-- state before it this step is a call of its own.
+pub record Led (steps : Steps) (n : ℕ) (s : State) (kept : Kept) (r : Report) (after : State) (left : Kept) : Type 0 where
   pub row : Option Row
   pub silent : Silent steps s (steps_before r) row (before_last steps s r)
+  pub within : steps_before r < n
   pub finished : r.finished ≡ (if is_done r.outcome then r.row else row)
+  pub over : leaves_more r.outcome r.accesses.items ≡ true → r.elements ≡ n
+  pub last : Tells (divergence (steps (before_last steps s r)) kept) steps 1 (before_last steps s r) kept (alone r) after left
 
 -- at a device that wasn't ready, or failed, the step stands at that access, with the answers of the accesses that were made
 abbrev pub Stands : Outcome → (Supply → Stepped) → Option Row → List Made → Type 0
@@ -248,9 +256,9 @@ pub record Reports (steps : Steps) (n : ℕ) (s : State) (kept : Kept) (old : Bu
   pub counted : Counted r.outcome old new
   pub well_made : All IsWellMade r.accesses.items
   pub few : r.elements ≤ n
-  pub alone : IsSome kept.asked → r.elements ≡ (if is_done r.outcome then 1 else 0)
+  pub single : IsSome kept.asked → r.elements ≡ (if is_done r.outcome then 1 else 0)
   pub stays : after ≡ after_steps steps r.elements s (answers_alone (answers r.accesses.items))
-  pub led : Led steps s r
+  pub led : Led steps n s kept r after left
   -- the record that is left belongs to the step that comes next
   pub fits_ : is_diverged r.outcome ≡ false → Fits (steps after) left
   -- each of the accesses is the one that the last step stands at with the answers before it alone

@@ -313,8 +313,8 @@ pub fn emulate_into<B: Bus, I: Intercepts>(
     // At every end the machine is as after the steps that finished.
     ensures stays { state_of m.new ≡ after_steps (steps_of (I.hits icpt.now)) report.new.elements (state_of m.old) (answers_alone (answers report.new.accesses.items)) }
     ensures valid { Valid (state_of m.new).cpu }
-    // Each step but the last finished, left elements to be done and made no access.
-    ensures led { Led (steps_of (I.hits icpt.now)) (state_of m.old) report.new }
+    // Each step but the last finished, left elements to be done and made no access; and the last one is a call of its own.
+    ensures led { Led (steps_of (I.hits icpt.now)) batch (state_of m.old) (kept_of rec.old) report.new (state_of m.new) (kept_of rec.new) }
     // Each of the accesses is the one that the last step stands at where it has the answers before it alone.
     ensures asks { is_diverged report.new.outcome ≡ false → StandsEach (step_of (before_last (steps_of (I.hits icpt.now)) (state_of m.old) report.new) (I.hits icpt.now)) report.new.row [] report.new.accesses.items }
     // It stands at the access of Pending and BusFault, with the answers of those before.
@@ -357,7 +357,7 @@ pub fn emulate<B: Bus, I: Intercepts>(
     ensures alone { IsSome (kept_of rec.old).asked → result.elements ≡ (if is_done result.outcome then 1 else 0) }
     ensures stays { state_of m.new ≡ after_steps (steps_of (I.hits icpt.now)) result.elements (state_of m.old) (answers_alone (answers result.accesses.items)) }
     ensures valid { Valid (state_of m.new).cpu }
-    ensures led { Led (steps_of (I.hits icpt.now)) (state_of m.old) result }
+    ensures led { Led (steps_of (I.hits icpt.now)) batch (state_of m.old) (kept_of rec.old) result (state_of m.new) (kept_of rec.new) }
     ensures asks { is_diverged result.outcome ≡ false → StandsEach (step_of (before_last (steps_of (I.hits icpt.now)) (state_of m.old) result) (I.hits icpt.now)) result.row [] result.accesses.items }
     ensures stands { Stands result.outcome (step_of (before_last (steps_of (I.hits icpt.now)) (state_of m.old) result) (I.hits icpt.now)) result.row result.accesses.items }
     ensures fitting { Fits (step_of (state_of m.old) (I.hits icpt.now)) (kept_of rec.old) → is_diverged result.outcome ≡ false }
