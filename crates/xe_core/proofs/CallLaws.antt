@@ -1,4 +1,4 @@
-use Rattle.std.proofs.Common.{ℕ, ◌≡◌, ◌+◌, List, [], length, Bool, true, false, Option, Some, None, Result, Ok, Err, refl, sym, ap, ◌∙◌, if◌then◌else◌, subst, inl, inr, arith}
+use Rattle.std.proofs.Common.{ℕ, zero, suc, ◌≡◌, ◌+◌, List, [], length, Bool, true, false, Option, Some, None, Result, Ok, Err, refl, sym, ap, ◌∙◌, if◌then◌else◌, subst, inl, inr, arith}
 use Rattle.std.proofs.lemmas.Bool.{cases_Bool}
 use Rattle.xe_base.specs.declared.access.Access.{Access}
 use Rattle.xe_base.specs.declared.access.Made.{Made}
@@ -13,7 +13,7 @@ use Rattle.xe_opmap.specs.declared.insn.Insn.{Insn}
 use Rattle.xe_opmap.specs.declared.row.Row.{Row}
 use Rattle.xe_ctx.specs.Accept.{accepted}
 use Rattle.xe_ctx.specs.Bus.{BusView}
-use Rattle.xe_core.specs.Call.{is_plain, Tried, Reports, judged, told_by, left_by, state_by, why_by}
+use Rattle.xe_core.specs.Tried.{is_plain, Tried, ReportsOnce, judged, told_by, left_by, state_by, why_by}
 use Rattle.xe_ctx.specs.Ending.{Ending, Raises, Exits, Interrupts, HandsOver, stop_of}
 use Rattle.xe_ctx.specs.Finishes.{IsSound}
 use Rattle.xe_ctx.specs.Is.{Sight, Is, Stood}
@@ -25,10 +25,9 @@ use Rattle.xe_ctx.specs.Runs.{finished}
 use Rattle.xe_ctx.specs.State.{State}
 use Rattle.xe_core.specs.Step.{step, stepped, executed, concluded, early, outcome_of, undefined_opcode, retired, tf, is_done}
 use Rattle.xe_ctx.specs.Supply.{Supply}
-use Rattle.xe_ctx.specs.Tree.{Tree}
 use Rattle.xe_ctx.specs.View.{accepts, opens}
 use Rattle.xe_ctx.specs.declared.report.Outcome.{Outcome}
-use Rattle.xe_ctx.specs.declared.report.Outcome.TheVariants.{Done, Unhandled, Unbuilt}
+use Rattle.xe_ctx.specs.declared.report.Outcome.TheVariants.{Done, Unhandled}
 use Rattle.xe_ctx.specs.declared.report.Outcome.TheVariants as outcomes
 use Rattle.xe_ctx.specs.declared.report.Report.{Report}
 use Rattle.xe_ctx.specs.declared.stop.End.{End}
@@ -39,8 +38,8 @@ use Rattle.xe_ctx.proofs.FinishLaws.{gives_of}
 use Rattle.xe_core.proofs.Reporting.{reports}
 use Rattle.xe_core.proofs.Trying.{tried_early, tried_finish, tried_stop}
 use Rattle.xe_core.specs.Emulate.{decided, fetched, step_of, after_by, Keepable}
-use Rattle.xe_core.specs.Rows.{table, DoesRow}
-use Rattle.xe_core.proofs.RowLaws.{sound_row}
+use Rattle.xe_core.specs.Rows.{table}
+use Rattle.xe_core.proofs.RowLaws.{sound_table}
 
 -- ---- the step by what was fetched
 
@@ -61,13 +60,9 @@ module _ (s : State) (hits : Point → Option Exit) (supply : Supply) where
   unfolding step fetched
   step_early o h = stepped-early _ _ o h
 
-  step_unbuilt : (insn : Insn) → fetched s ≡ Ok insn → table insn s.cpu ≡ None → step_of s hits supply ≡ early s (Some insn.row) (Unbuilt (Some insn.row)) supply
-  unfolding step fetched
-  step_unbuilt insn h n = stepped-on _ _ insn h ∙ ap (λ t. executed t insn s hits supply) n
-
-  step_on : (insn : Insn) (tree : Tree Finish) → fetched s ≡ Ok insn → table insn s.cpu ≡ Some tree → step_of s hits supply ≡ concluded s insn.row (run tree (begins s hits) supply)
+  step_on : (insn : Insn) → fetched s ≡ Ok insn → step_of s hits supply ≡ concluded s insn.row (run (table insn s.cpu) (begins s hits) supply)
   unfolding step fetched accepted
-  step_on insn tree h n = stepped-on _ _ insn h ∙ ap (λ t. executed t insn s hits supply) n
+  step_on insn h = stepped-on _ _ insn h
 
 -- ---- ends by their outcomes
 
@@ -119,62 +114,41 @@ module _ (s : State) (hits : Point → Option Exit) (old : Sight) (start : old.s
       let e = fetched-early s o h in
       rw (after-undone o s cpu ram e.undone, same) (tried_early (step_of s hits) old.step old.kept old.bus none-made s None o e.plain (λ supply. step_early s hits supply o h))
 
-  -- one that isn't built
-  tried_unbuilt : (insn : Insn) (new : Sight) → fetched s ≡ Ok insn → table insn s.cpu ≡ None → new ≡ old → Tried (step_of s hits) old (Some insn.row) (Unbuilt (Some insn.row)) s new
-  tried_unbuilt insn new h n same = rw same (tried_early (step_of s hits) old.step old.kept old.bus none-made s (Some insn.row) (Unbuilt (Some insn.row)) refl (λ supply. step_unbuilt s hits supply insn h n))
+  module _ (insn : Insn) (h : fetched s ≡ Ok insn) where
+    steps : (supply : Supply) → step_of s hits supply ≡ concluded s insn.row (run (table insn s.cpu) old.step supply)
+    steps supply = step_on s hits supply insn h ∙ ap (λ v. concluded s insn.row (run (table insn s.cpu) v supply)) (sym start)
 
-  module _ (insn : Insn) (tree : Tree Finish) (h : fetched s ≡ Ok insn) (built : table insn s.cpu ≡ Some tree) where
-    steps : (supply : Supply) → step_of s hits supply ≡ concluded s insn.row (run tree old.step supply)
-    steps supply = step_on s hits supply insn tree h built ∙ ap (λ v. concluded s insn.row (run tree v supply)) (sym start)
+    finishes : (f : Finish) (new : Sight) → Is (table insn s.cpu) old (Ok f) new → Tried (step_of s hits) old (Some insn.row) (Done f.more (retired s.cpu f.retire)) (record { cpu = f.cpu; ram = new.step.work }) new
+    finishes f new d = tried_finish (step_of s hits) old.step old.kept old.bus none-made s insn.row (table insn s.cpu) steps new f d
 
-    finishes : (f : Finish) (new : Sight) → Is tree old (Ok f) new → Tried (step_of s hits) old (Some insn.row) (Done f.more (retired s.cpu f.retire)) (record { cpu = f.cpu; ram = new.step.work }) new
-    finishes f new d = tried_finish (step_of s hits) old.step old.kept old.bus none-made s insn.row tree steps new f d
-
-    stops-so : (e : Stop) (new : Sight) → Is tree old (Err e) new → Tried (step_of s hits) old (Some insn.row) (outcome_of e) s new
-    stops-so e new d = tried_stop (step_of s hits) old.step old.kept old.bus none-made s insn.row tree steps new e d
-
--- none was done exactly where none is built
-pub none_built : (o : Option (Tree Finish)) (old new : Sight) → DoesRow o old None new → (o ≡ None) × (new ≡ old)
-none_built None old new d = (refl, d)
-none_built (Some tree) old new d = absurd d
-
-pub row_built : (o : Option (Tree Finish)) (res : Result Finish Stop) (old new : Sight) → DoesRow o old (Some res) new → (tree : Tree Finish) × (o ≡ Some tree) × Is tree old res new
-row_built None res old new d = absurd d
-row_built (Some tree) res old new d = (tree, refl, d)
+    stops-so : (e : Stop) (new : Sight) → Is (table insn s.cpu) old (Err e) new → Tried (step_of s hits) old (Some insn.row) (outcome_of e) s new
+    stops-so e new d = tried_stop (step_of s hits) old.step old.kept old.bus none-made s insn.row (table insn s.cpu) steps new e d
 
 -- what a call knows of an instruction that it has begun: the sights at its start and where it was accepted, and the registers
-module _ (s : State) (hits : Point → Option Exit) (old taken begun new : Sight) (insn : Insn) (cpu : Cpu) (start : old.step ≡ begins s hits) (h : Ok insn ≡ fetched s) (of_ : IsOf s.cpu insn) (step : taken ≡ old) (accept : begun ≡ accepts insn.len taken) (registers : cpu ≡ s.cpu) where
+module _ (s : State) (hits : Point → Option Exit) (old taken begun new : Sight) (insn : Insn) (cpu : Cpu) (start : old.step ≡ begins s hits) (h : Ok insn ≡ fetched s) (of_ : IsOf s.cpu insn) (step : taken ≡ old) (accept : begun ≡ accepts insn.len taken) (registers : cpu ≡ s.cpu) (out : Result End Stop) (draft : Cpu) (d : Is (table insn cpu) begun (finished out draft) new) where
   begun-same : begun ≡ old
   begun-same = accept ∙ accepts-same insn.len taken ∙ step
 
-  here : (o : Option (Result Finish Stop)) → DoesRow (table insn cpu) begun o new → DoesRow (table insn s.cpu) begun o new
-  here o d = subst (λ (c : Cpu). DoesRow (table insn c) begun o new) registers d
+  did : (res : Result End Stop) → out ≡ res → Is (table insn s.cpu) old (finished res draft) new
+  did res is =
+      let one : Is (table insn s.cpu) begun (finished out draft) new = subst (λ (c : Cpu). Is (table insn c) begun (finished out draft) new) registers d in
+      let two : Is (table insn s.cpu) old (finished out draft) new = subst (λ (x : Sight). Is (table insn s.cpu) x (finished out draft) new) begun-same one in
+      subst (λ (r : Result End Stop). Is (table insn s.cpu) old (finished r draft) new) is two
 
-  pub came_unbuilt : DoesRow (table insn cpu) begun None new → Tried (step_of s hits) old (Some insn.row) (Unbuilt (Some insn.row)) s new
-  came_unbuilt d = let n = none_built _ begun new (here None d) in tried_unbuilt s hits old start insn new (sym h) n.0 (n.1 ∙ begun-same)
-
-  pub came_finish : (out : Result End Stop) (end : End) (draft : Cpu) (b : Bool) (n : ℕ) → out ≡ Ok end → b ≡ tf s.cpu → n ≡ (if b then end.retire + 8 else end.retire) → DoesRow (table insn cpu) begun (Some (finished out draft)) new → Tried (step_of s hits) old (Some insn.row) (Done end.more n) (after_by (Done end.more n) s draft new.step.work) new
-  came_finish out end draft b n is trap e d =
-      let row = row_built _ (finished (Ok end) draft) begun new (here (Some (finished (Ok end) draft)) (subst (λ (r : Result End Stop). DoesRow (table insn cpu) begun (Some (finished r draft)) new) is d)) in
-      let did : Is row.0 old (finished (Ok end) draft) new = subst (λ (x : Sight). Is row.0 x (finished (Ok end) draft) new) begun-same row.2 in
+  pub came_finish : (end : End) (b : Bool) (n : ℕ) → out ≡ Ok end → b ≡ tf s.cpu → n ≡ (if b then end.retire + 8 else end.retire) → Tried (step_of s hits) old (Some insn.row) (Done end.more n) (after_by (Done end.more n) s draft new.step.work) new
+  came_finish end b n is trap e =
       let same : n ≡ retired s.cpu end.retire = e ∙ ap (λ (x : Bool). if x then end.retire + 8 else end.retire) trap in
-      subst (λ (m : ℕ). Tried (step_of s hits) old (Some insn.row) (Done end.more m) (record { cpu = draft; ram = new.step.work }) new) (sym same) (finishes s hits old start insn row.0 (sym h) row.1 (record { cpu = draft; more = end.more; retire = end.retire }) new did)
+      subst (λ (m : ℕ). Tried (step_of s hits) old (Some insn.row) (Done end.more m) (record { cpu = draft; ram = new.step.work }) new) (sym same) (finishes s hits old start insn (sym h) (record { cpu = draft; more = end.more; retire = end.retire }) new (did (Ok end) is))
 
-  pub came_stop : (out : Result End Stop) (e : Stop) (draft : Cpu) (ram : List Area) (o : Outcome) → out ≡ Err e → o ≡ outcome_of e → DoesRow (table insn cpu) begun (Some (finished out draft)) new → Tried (step_of s hits) old (Some insn.row) o (after_by o s draft ram) new
-  came_stop out e draft ram o is same d =
-      let row = row_built _ (finished (Err e) draft) begun new (here (Some (finished (Err e) draft)) (subst (λ (r : Result End Stop). DoesRow (table insn cpu) begun (Some (finished r draft)) new) is d)) in
-      let did : Is row.0 old (finished (Err e) draft) new = subst (λ (x : Sight). Is row.0 x (finished (Err e) draft) new) begun-same row.2 in
+  pub came_stop : (e : Stop) (ram : List Area) (o : Outcome) → out ≡ Err e → o ≡ outcome_of e → Tried (step_of s hits) old (Some insn.row) o (after_by o s draft ram) new
+  came_stop e ram o is same =
       let undone = stop-not-done e in
-      let there : Tried (step_of s hits) old (Some insn.row) (outcome_of e) (after_by (outcome_of e) s draft ram) new = subst (λ (x : State). Tried (step_of s hits) old (Some insn.row) (outcome_of e) x new) (sym (after-undone (outcome_of e) s draft ram undone)) (stops-so s hits old start insn row.0 (sym h) row.1 e new did) in
+      let there : Tried (step_of s hits) old (Some insn.row) (outcome_of e) (after_by (outcome_of e) s draft ram) new = subst (λ (x : State). Tried (step_of s hits) old (Some insn.row) (outcome_of e) x new) (sym (after-undone (outcome_of e) s draft ram undone)) (stops-so s hits old start insn (sym h) e new (did (Err e) is)) in
       subst (λ (x : Outcome). Tried (step_of s hits) old (Some insn.row) x (after_by x s draft ram) new) (sym same) there
 
-  sound-is : (f : Finish) (o : Option (Tree Finish)) → table insn s.cpu ≡ o → Valid s.cpu → DoesRow o begun (Some (Ok f)) new → IsSound f
-  sound-is f None e v d = absurd d
-  sound-is f (Some tree) e v d = gives_of IsSound tree f begun new (sound_row insn s.cpu tree e of_ v) d
-
   -- an instruction finishes well
-  pub came_sound : (out : Result End Stop) (end : End) (draft : Cpu) → out ≡ Ok end → Valid s.cpu → DoesRow (table insn cpu) begun (Some (finished out draft)) new → IsSound (record { cpu = draft; more = end.more; retire = end.retire })
-  came_sound out end draft is v d = sound-is (record { cpu = draft; more = end.more; retire = end.retire }) (table insn s.cpu) refl v (here (Some (finished (Ok end) draft)) (subst (λ (r : Result End Stop). DoesRow (table insn cpu) begun (Some (finished r draft)) new) is d))
+  pub came_sound : (end : End) → out ≡ Ok end → Valid s.cpu → IsSound (record { cpu = draft; more = end.more; retire = end.retire })
+  came_sound end is v = gives_of IsSound (table insn s.cpu) (record { cpu = draft; more = end.more; retire = end.retire }) old new (sound_table insn s.cpu of_ v) (did (Ok end) is)
 
 -- ---- the judgement
 
@@ -189,7 +163,6 @@ judged-or (outcomes.Handoff h) n (Some x) e = cc
 judged-or Unhandled n (Some x) e = cc
 judged-or (outcomes.BusFault a) n (Some x) e = cc
 judged-or (outcomes.Diverged at kept wanted) n (Some x) e = cc
-judged-or (Unbuilt r) n (Some x) e = cc
 
 judged-keeps : (o : Outcome) (n : ℕ) (u : Option Access) (made : List Made) → Keepable o made → Keepable (judged o n u) made
 judged-keeps o n None made k = k
@@ -202,7 +175,6 @@ judged-keeps (outcomes.Handoff h) n (Some x) made k = tt
 judged-keeps Unhandled n (Some x) made k = tt
 judged-keeps (outcomes.BusFault a) n (Some x) made k = k
 judged-keeps (outcomes.Diverged at kept wanted) n (Some x) made k = tt
-judged-keeps (Unbuilt r) n (Some x) made k = tt
 
 stood-keeps : (o : Outcome) (old new : Sight) → Stood (why_by o) old new → Keepable o new.step.made
 stood-keeps (Done more retire) old new s = tt
@@ -214,7 +186,6 @@ stood-keeps (outcomes.Handoff h) old new s = tt
 stood-keeps Unhandled old new s = tt
 stood-keeps (outcomes.BusFault a) old new s = (s.0.well_formed, (let l = s.0.room_ in omega arith))
 stood-keeps (outcomes.Diverged at kept wanted) old new s = tt
-stood-keeps (Unbuilt r) old new s = tt
 
 done-left : (o : Outcome) (made : List Made) (K : Kept) → is_done o ≡ true → left_by o made K ≡ nothing
 done-left (Done more retire) made K e = refl
@@ -226,9 +197,13 @@ done-left (outcomes.Handoff h) made K e = refl
 done-left Unhandled made K e = refl
 done-left (outcomes.BusFault a) made K e = cc
 done-left (outcomes.Diverged at kept wanted) made K e = cc
-done-left (Unbuilt r) made K e = refl
 
--- ---- one call
+-- nothing is left of a record that keeps nothing
+pub nothing_unused : (n : ℕ) → expected nothing n ≡ None
+nothing_unused zero = refl
+nothing_unused (suc n) = refl
+
+-- ---- one step
 
 module _ (s at : State) (hits : Point → Option Exit) (K : Kept) (b : BusView) (begun new : Sight) (row : Option Row) (o told : Outcome) (draft : Cpu) (ram : List Area) (ok : IsKept K.answers K.asked) (starts : begun ≡ opens s hits K b) (same : at ≡ s) (tried : Tried (step_of at begun.step.hits) begun row o (after_by o at draft ram) new) (judge : told ≡ judged o (length new.step.made) (expected new.kept (length new.step.made))) where
   -- a call that finishes has reached all of its record, and finishes as its step
@@ -261,7 +236,7 @@ module _ (s at : State) (hits : Point → Option Exit) (K : Kept) (b : BusView) 
   ]
 
   -- what the call reports
-  pub call_reports : Agrees new.kept.answers new.kept.asked new.step.made → (r : Report) (now : State) (left : Kept) (bus : BusView) → r ≡ told_by row told new.step.made → now ≡ (if is_done told then record { cpu = draft; ram = ram } else s) → left ≡ left_by told new.step.made K → bus ≡ new.bus → Reports (step_of s hits) s K b r now left bus
+  pub call_reports : Agrees new.kept.answers new.kept.asked new.step.made → (r : Report) (now : State) (left : Kept) (bus : BusView) → r ≡ told_by row told new.step.made → now ≡ (if is_done told then record { cpu = draft; ram = ram } else s) → left ≡ left_by told new.step.made K → bus ≡ new.bus → ReportsOnce (step_of s hits) s K b r now left bus
   call_reports ag r now left bus tells is keeps bus_is =
       let agrees : Agrees K.answers K.asked new.step.made = subst (λ (k : Kept). Agrees k.answers k.asked new.step.made) kept-is ag in
       let u : expected K (length new.step.made) ≡ expected new.kept (length new.step.made) = ap (λ (k : Kept). expected k (length new.step.made)) (sym kept-is) in
@@ -273,13 +248,13 @@ module _ (s at : State) (hits : Point → Option Exit) (K : Kept) (b : BusView) 
       (λ e. undone-stays (is_done o) e)
 
   -- one that finishes
-  pub call_finished : is_done told ≡ true → Agrees new.kept.answers new.kept.asked new.step.made → (r : Report) (now : State) (left : Kept) (bus : BusView) → r ≡ told_by row told new.step.made → now ≡ record { cpu = draft; ram = ram } → left ≡ nothing → bus ≡ new.bus → Reports (step_of s hits) s K b r now left bus
+  pub call_finished : is_done told ≡ true → Agrees new.kept.answers new.kept.asked new.step.made → (r : Report) (now : State) (left : Kept) (bus : BusView) → r ≡ told_by row told new.step.made → now ≡ record { cpu = draft; ram = ram } → left ≡ nothing → bus ≡ new.bus → ReportsOnce (step_of s hits) s K b r now left bus
   call_finished done ag r now left bus tells is keeps bus_is =
       let state : record { cpu = draft; ram = ram } ≡ (if is_done told then record { cpu = draft; ram = ram } else s) = rw done refl in
       call_reports ag r now left bus tells (is ∙ state) (keeps ∙ sym (done-left told new.step.made K done)) bus_is
 
   -- one that doesn't
-  pub call_ended : is_done told ≡ false → Agrees new.kept.answers new.kept.asked new.step.made → (r : Report) (now : State) (left : Kept) (bus : BusView) → r ≡ told_by row told new.step.made → now ≡ s → left ≡ left_by told new.step.made new.kept → bus ≡ new.bus → Reports (step_of s hits) s K b r now left bus
+  pub call_ended : is_done told ≡ false → Agrees new.kept.answers new.kept.asked new.step.made → (r : Report) (now : State) (left : Kept) (bus : BusView) → r ≡ told_by row told new.step.made → now ≡ s → left ≡ left_by told new.step.made new.kept → bus ≡ new.bus → ReportsOnce (step_of s hits) s K b r now left bus
   call_ended undone ag r now left bus tells is keeps bus_is =
       let state : s ≡ (if is_done told then record { cpu = draft; ram = ram } else s) = sym (undone-stays (is_done told) undone) in
       call_reports ag r now left bus tells (is ∙ state) (keeps ∙ ap (left_by told new.step.made) kept-is) bus_is

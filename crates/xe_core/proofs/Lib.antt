@@ -3,5 +3,7 @@ pub mod Trying
 pub mod Reporting
 pub mod RowLaws
 pub mod CallLaws
+pub mod TurnLaws
+pub mod Turning
 pub mod TestLaws
 pub mod Worked

@@ -1,4 +1,4 @@
-use Rattle.std.proofs.Common.{ℕ, zero, suc, ◌≡◌, ◌<◌, ◌≤◌, ◌+◌, ◌-◌, List, [], ◌∷◌, ◌++◌, length, drop, Bool, true, false, Option, Some, None, refl, sym, ap, subst, ◌∙◌, arith, if◌then◌else◌, nat_lt, inl, inr}
+use Rattle.std.proofs.Common.{ℕ, zero, suc, ◌≡◌, ◌<◌, ◌≤◌, ◌+◌, ◌-◌, List, [], ◌∷◌, ◌++◌, length, drop, Bool, true, false, Option, Some, None, refl, sym, ap, ◌∙◌, arith, if◌then◌else◌, nat_lt, inl, inr}
 use Rattle.std.proofs.lemmas.Bool.{cases_Bool}
 use Rattle.std.proofs.lemmas.Bool.Decides.{nat_tests}
 use Rattle.std.proofs.lemmas.List.{append-nil, drop_all, length-drop}
@@ -8,18 +8,19 @@ use Rattle.xe_opmap.specs.declared.row.Row.{Row}
 use Rattle.std.proofs.lemmas.List.Elements.{All-nil}
 use Rattle.xe_base.specs.Access.{IsWellMade}
 use Rattle.xe_ctx.specs.Bus.{BusView}
-use Rattle.xe_core.specs.Call.{Call, Divergence, differs, diverges, divergence, diverges_from, standing, StandsEach, called, diverged, resumed, one_call, reported, lacking, Tells, FollowsTape, Counted, Reports, StandsThere, StandsThereAt, ComesTo, is_plain, why_by, Tried, Stands, LeftBy, Played, judged, told_by, left_by, state_by}
-use Rattle.xe_ctx.specs.Is.{Sight, Moves, Plays, Leaves, Stood, StandsAt, fresh, supply_of}
+use Rattle.xe_core.specs.Call.{Divergence, differs, divergence, diverges_from, standing, StandsEach, lacking, Counted, Stands, LeftBy}
+use Rattle.xe_core.specs.Tried.{called_once, ReportsOnce, StandsThere, ComesTo, is_plain, why_by, Tried, judged, told_by, left_by, state_by}
+use Rattle.xe_ctx.specs.Is.{Sight, Plays, Leaves, Stood, StandsAt, fresh, supply_of}
 use Rattle.xe_ctx.specs.Part.{View}
 use Rattle.xe_ctx.specs.Kept.{Kept, nothing, expected, expected_from, Agrees, IsKept, same_access}
 use Rattle.xe_ctx.specs.State.{State}
-use Rattle.xe_core.specs.Step.{Stepped, Ended, Ends, Wants, is_done, is_diverged}
+use Rattle.xe_core.specs.Step.{Stepped, Ends, is_done, is_diverged}
 use Rattle.xe_ctx.specs.Supply.{Supply, Supplies, Lacks, Unanswered, Unready, Failing, answers_alone, answers, from_tape, next_answer}
-use Rattle.xe_ctx.specs.Tape.{Tape, Key}
+use Rattle.xe_ctx.specs.Tape.{Tape}
 use Rattle.xe_ctx.specs.declared.report.Outcome.{Outcome}
 use Rattle.xe_ctx.specs.declared.report.Outcome.TheVariants as outcomes
 use Rattle.xe_ctx.specs.declared.report.Report.{Report}
-use Rattle.xe_core.proofs.Replays.{same_refl, diverges-none, diverges-last, diverges-asked, agrees-front}
+use Rattle.xe_core.proofs.Replays.{diverges-none, diverges-last, diverges-asked, agrees-front}
 
 -- From a step that was tried to what its call reports.
 
@@ -101,7 +102,6 @@ comes-plain came row (outcomes.Handoff h) after made rest p e = e
 comes-plain came row outcomes.Unhandled after made rest p e = e
 comes-plain came row (outcomes.BusFault a) after made rest p e = cc
 comes-plain came row (outcomes.Diverged at kept wanted) after made rest p e = cc
-comes-plain came row (outcomes.Unbuilt r) after made rest p e = e
 
 why-plain : (o : Outcome) → is_plain o ≡ true → why_by o ≡ None
 why-plain (outcomes.Done more retire) p = refl
@@ -113,7 +113,6 @@ why-plain (outcomes.Handoff h) p = refl
 why-plain outcomes.Unhandled p = refl
 why-plain (outcomes.BusFault a) p = cc
 why-plain (outcomes.Diverged at kept wanted) p = cc
-why-plain (outcomes.Unbuilt r) p = refl
 
 pub comes-ended : (came : Stepped) (row : Option Row) (o : Outcome) (after : State) (made : List Made) (rest : Supply) → is_plain o ≡ true → came ≡ Ends (record { row = row; outcome = o; state = after; made = made; rest = rest }) → ComesTo came row o after made rest
 comes-ended came row (outcomes.Done more retire) after made rest p e = e
@@ -125,7 +124,6 @@ comes-ended came row (outcomes.Handoff h) after made rest p e = e
 comes-ended came row outcomes.Unhandled after made rest p e = e
 comes-ended came row (outcomes.BusFault a) after made rest p e = cc
 comes-ended came row (outcomes.Diverged at kept wanted) after made rest p e = (let no : false ≡ true = p in cc)
-comes-ended came row (outcomes.Unbuilt r) after made rest p e = e
 
 pub plain-leaves : (o : Outcome) → is_plain o ≡ true → (mid rest : Supply) → Leaves None mid rest → Leaves (why_by o) mid rest
 plain-leaves o p mid rest h = rw (why-plain o p) h
@@ -143,7 +141,6 @@ lacking-plain (outcomes.Handoff h) came p = refl
 lacking-plain outcomes.Unhandled came p = refl
 lacking-plain (outcomes.BusFault a) came p = cc
 lacking-plain (outcomes.Diverged at kept wanted) came p = refl
-lacking-plain (outcomes.Unbuilt r) came p = refl
 
 plain-same : (o : Outcome) → is_plain o ≡ true → is_diverged o ≡ false
 plain-same (outcomes.Done more retire) p = refl
@@ -155,7 +152,6 @@ plain-same (outcomes.Handoff h) p = refl
 plain-same outcomes.Unhandled p = refl
 plain-same (outcomes.BusFault a) p = refl
 plain-same (outcomes.Diverged at kept wanted) p = cc
-plain-same (outcomes.Unbuilt r) p = refl
 
 stands-plain : (o : Outcome) (stepping : Supply → Stepped) (row : Option Row) (made : List Made) → is_plain o ≡ true → Stands o stepping row made
 stands-plain (outcomes.Done more retire) stepping row made p = tt
@@ -167,7 +163,6 @@ stands-plain (outcomes.Handoff h) stepping row made p = tt
 stands-plain outcomes.Unhandled stepping row made p = tt
 stands-plain (outcomes.BusFault a) stepping row made p = cc
 stands-plain (outcomes.Diverged at kept wanted) stepping row made p = tt
-stands-plain (outcomes.Unbuilt r) stepping row made p = tt
 
 left-plain : (o : Outcome) (mid rest : Supply) → is_plain o ≡ true → mid ≡ rest → LeftBy o mid rest
 left-plain (outcomes.Done more retire) mid rest p e = e
@@ -179,7 +174,6 @@ left-plain (outcomes.Handoff h) mid rest p e = e
 left-plain outcomes.Unhandled mid rest p e = e
 left-plain (outcomes.BusFault a) mid rest p e = cc
 left-plain (outcomes.Diverged at kept wanted) mid rest p e = e
-left-plain (outcomes.Unbuilt r) mid rest p e = e
 
 counted-plain : (o : Outcome) (old new : BusView) → is_plain o ≡ true → Counted o old new
 counted-plain (outcomes.Done more retire) old new p = tt
@@ -191,7 +185,6 @@ counted-plain (outcomes.Handoff h) old new p = tt
 counted-plain outcomes.Unhandled old new p = tt
 counted-plain (outcomes.BusFault a) old new p = cc
 counted-plain (outcomes.Diverged at kept wanted) old new p = cc
-counted-plain (outcomes.Unbuilt r) old new p = tt
 
 -- ---- a call
 
@@ -225,13 +218,13 @@ module _ (stepping : Supply → Stepped) (s : State) (v : View) (K : Kept) (b : 
     log-new t p = p.log t.log (rw fresh-start (sym (append-nil t.log))) ∙ ap (λ ms. t.log ++ ms) fresh-new
 
     -- it ended as the definition has it, and has reached all that the record has
-    pub reports_ended : (r : Report) (now : State) (left : Kept) (bus : BusView) → is_plain outcome ≡ true → expected K (length new.step.made) ≡ None → r ≡ record { row = row; finished = if is_done outcome then row else None; elements = if is_done outcome then 1 else 0; accesses = record { items = new.step.made }; outcome = outcome } → now ≡ after → left ≡ nothing → bus ≡ new.bus → (is_done outcome ≡ false → after ≡ s) → Reports stepping s K b r now left bus
+    pub reports_ended : (r : Report) (now : State) (left : Kept) (bus : BusView) → is_plain outcome ≡ true → expected K (length new.step.made) ≡ None → r ≡ record { row = row; finished = if is_done outcome then row else None; elements = if is_done outcome then 1 else 0; accesses = record { items = new.step.made }; outcome = outcome } → now ≡ after → left ≡ nothing → bus ≡ new.bus → (is_done outcome ≡ false → after ≡ s) → ReportsOnce stepping s K b r now left bus
     reports_ended r now left bus p reached told is empty bus_is stay =
         let fits : divergence stepping K ≡ None = fits-reached stepping row K.answers K.asked new.step.made tried.stands ag reached in
         let came : (supply rest : Supply) → Supplies supply new.step.made rest → stepping supply ≡ Ends (record { row = row; outcome = outcome; state = after; made = new.step.made; rest = rest }) = (λ supply rest h. comes-plain _ row outcome after _ rest p (tried.comes supply rest h)) in
         let front = agrees-front K.answers new.step.made K.asked ag (reached-kept K.answers K.asked new.step.made ok reached) in
         rw (told, is, empty, bus_is) (record {
-          tells = rw fits (front.0, front.1, ap (called s) (lacking-plain outcome _ p ∙ came _ _ (supplied new.step.made)));
+          tells = rw fits (front.0, front.1, ap (called_once s) (lacking-plain outcome _ p ∙ came _ _ (supplied new.step.made)));
           told = λ t e. (let q = tried.moves.told t e in
               let leaves : Leaves None q.mid (supply_of new) = rw (why-plain outcome p) at q.left in
               let supplies : Supplies (record { given = answers K.answers; tape = Some t }) new.step.made q.mid = rw (supply-start t e) at q.supplies in
@@ -248,7 +241,11 @@ module _ (stepping : Supply → Stepped) (s : State) (v : View) (K : Kept) (b : 
           faults_ = tried.moves.faults_;
           counted = counted-plain outcome b new.bus p;
           well_made = tried.moves.well_made;
+          one = refl;
+          finished = refl;
           stays = stay;
+          comes = λ _. came;
+          reached = λ _. reached;
           fits_ = λ _. refl;
           emptied = λ _. refl;
           asks = λ _. tried.stands;
@@ -283,12 +280,12 @@ module _ (stepping : Supply → Stepped) (s : State) (v : View) (K : Kept) (b : 
       pub fits-left : divergence stepping (record { answers = new.step.made; asked = Some a }) ≡ None
       fits-left = diverges-asked stepping row a new.step.made new.step.made [] tried.stands (agrees-self new.step.made (Some a)) refl alone
 
-      pub reports_pending : (r : Report) (now : State) (left : Kept) (bus : BusView) → outcome ≡ outcomes.Pending a → r ≡ record { row = row; finished = None; elements = 0; accesses = record { items = new.step.made }; outcome = outcomes.Pending a } → now ≡ s → left ≡ record { answers = new.step.made; asked = Some a } → bus ≡ new.bus → Reports stepping s K b r now left bus
+      pub reports_pending : (r : Report) (now : State) (left : Kept) (bus : BusView) → outcome ≡ outcomes.Pending a → r ≡ record { row = row; finished = None; elements = 0; accesses = record { items = new.step.made }; outcome = outcomes.Pending a } → now ≡ s → left ≡ record { answers = new.step.made; asked = Some a } → bus ≡ new.bus → ReportsOnce stepping s K b r now left bus
       reports_pending r now left bus o told is keeps bus_is =
           let front = agrees-front K.answers new.step.made K.asked ag used in
           let stood = rw o at tried.moves.stood in
           rw (told, is, keeps, bus_is) (record {
-            tells = rw fits-there (front.0, front.1, ap (called s) alone);
+            tells = rw fits-there (front.0, front.1, ap (called_once s) alone);
             told = λ t e. (let q = tried.moves.told t e in
                 let leaves : next_answer q.mid a ≡ Lacks Unready (supply_of new) = rw o at q.left in
                 let supplies : Supplies (record { given = answers K.answers; tape = Some t }) new.step.made q.mid = rw (supply-start t e) at q.supplies in
@@ -305,7 +302,11 @@ module _ (stepping : Supply → Stepped) (s : State) (v : View) (K : Kept) (b : 
             faults_ = tried.moves.faults_;
             counted = stood.1;
             well_made = tried.moves.well_made;
+            one = refl;
+            finished = refl;
             stays = λ _. refl;
+            comes = λ no. cc;
+            reached = λ no. cc;
             fits_ = λ _. fits-left;
             emptied = λ no. cc;
             asks = λ _. tried.stands;
@@ -322,7 +323,7 @@ module _ (stepping : Supply → Stepped) (s : State) (v : View) (K : Kept) (b : 
                 });
           })
 
-      pub reports_failed : (r : Report) (now : State) (left : Kept) (bus : BusView) → outcome ≡ outcomes.BusFault a → r ≡ record { row = row; finished = None; elements = 0; accesses = record { items = new.step.made }; outcome = outcomes.BusFault a } → now ≡ s → left ≡ record { answers = new.step.made; asked = Some a } → bus ≡ new.bus → Reports stepping s K b r now left bus
+      pub reports_failed : (r : Report) (now : State) (left : Kept) (bus : BusView) → outcome ≡ outcomes.BusFault a → r ≡ record { row = row; finished = None; elements = 0; accesses = record { items = new.step.made }; outcome = outcomes.BusFault a } → now ≡ s → left ≡ record { answers = new.step.made; asked = Some a } → bus ≡ new.bus → ReportsOnce stepping s K b r now left bus
       reports_failed r now left bus o told is keeps bus_is =
           let front = agrees-front K.answers new.step.made K.asked ag used in
           let stood = rw o at tried.moves.stood in
@@ -344,7 +345,11 @@ module _ (stepping : Supply → Stepped) (s : State) (v : View) (K : Kept) (b : 
             faults_ = tried.moves.faults_;
             counted = stood.1;
             well_made = tried.moves.well_made;
+            one = refl;
+            finished = refl;
             stays = λ _. refl;
+            comes = λ no. cc;
+            reached = λ no. cc;
             fits_ = λ _. fits-left;
             emptied = λ no. cc;
             asks = λ _. tried.stands;
@@ -363,7 +368,7 @@ module _ (stepping : Supply → Stepped) (s : State) (v : View) (K : Kept) (b : 
 
     -- the record belongs to another step: it has another access at the place behind those made, or the step has ended
     module _ (x : Access) (wanted : Option Access) (within : length new.step.made ≤ length K.answers) (why : divergence stepping K ≡ Some (record { row = row; what = record { at = length new.step.made; kept = x; wanted = wanted } })) (quiet : (t : Tape) → (p : Plays t start new.step.made (why_by outcome) new) → p.mid ≡ supply_of new) where
-      reports-apart : (r : Report) (now : State) (left : Kept) (bus : BusView) → r ≡ record { row = row; finished = None; elements = 0; accesses = record { items = [] }; outcome = outcomes.Diverged (length new.step.made) x wanted } → now ≡ s → left ≡ K → bus ≡ new.bus → Reports stepping s K b r now left bus
+      reports-apart : (r : Report) (now : State) (left : Kept) (bus : BusView) → r ≡ record { row = row; finished = None; elements = 0; accesses = record { items = [] }; outcome = outcomes.Diverged (length new.step.made) x wanted } → now ≡ s → left ≡ K → bus ≡ new.bus → ReportsOnce stepping s K b r now left bus
       reports-apart r now left bus told is keeps bus_is =
           rw (told, is, keeps, bus_is) (record {
             tells = rw why refl;
@@ -385,7 +390,11 @@ module _ (stepping : Supply → Stepped) (s : State) (v : View) (K : Kept) (b : 
             faults_ = tried.moves.faults_;
             counted = tt;
             well_made = All-nil IsWellMade;
+            one = refl;
+            finished = refl;
             stays = λ _. refl;
+            comes = λ no. cc;
+            reached = λ no. cc;
             fits_ = λ no. cc;
             emptied = λ no. cc;
             asks = λ no. cc;
@@ -394,14 +403,14 @@ module _ (stepping : Supply → Stepped) (s : State) (v : View) (K : Kept) (b : 
             plays = λ t e no. cc;
           })
 
-    pub reports_unreached : (x : Access) (r : Report) (now : State) (left : Kept) (bus : BusView) → is_plain outcome ≡ true → expected K (length new.step.made) ≡ Some x → r ≡ record { row = row; finished = None; elements = 0; accesses = record { items = [] }; outcome = outcomes.Diverged (length new.step.made) x None } → now ≡ s → left ≡ K → bus ≡ new.bus → Reports stepping s K b r now left bus
+    pub reports_unreached : (x : Access) (r : Report) (now : State) (left : Kept) (bus : BusView) → is_plain outcome ≡ true → expected K (length new.step.made) ≡ Some x → r ≡ record { row = row; finished = None; elements = 0; accesses = record { items = [] }; outcome = outcomes.Diverged (length new.step.made) x None } → now ≡ s → left ≡ K → bus ≡ new.bus → ReportsOnce stepping s K b r now left bus
     reports_unreached x r now left bus p at =
         let within = expects-none K.answers K.asked (length new.step.made) x at in
         let ended : stepping (answers_alone (answers new.step.made)) ≡ Ends (record { row = row; outcome = outcome; state = after; made = new.step.made; rest = answers_alone [] }) = comes-plain _ row outcome after _ _ p (tried.comes _ _ (supplied new.step.made)) in
         let why : divergence stepping K ≡ Some (record { row = row; what = record { at = length new.step.made; kept = x; wanted = None } }) = differs-there stepping row K.answers K.asked new.step.made x _ ok tried.stands ag at (rw ended refl) in
         reports-apart x None within why (λ t q. rw (why-plain outcome p) at q.left) r now left bus
 
-    pub reports_differs : (x a : Access) (r : Report) (now : State) (left : Kept) (bus : BusView) → outcome ≡ outcomes.Diverged (length new.step.made) x (Some a) → r ≡ record { row = row; finished = None; elements = 0; accesses = record { items = [] }; outcome = outcomes.Diverged (length new.step.made) x (Some a) } → now ≡ s → left ≡ K → bus ≡ new.bus → Reports stepping s K b r now left bus
+    pub reports_differs : (x a : Access) (r : Report) (now : State) (left : Kept) (bus : BusView) → outcome ≡ outcomes.Diverged (length new.step.made) x (Some a) → r ≡ record { row = row; finished = None; elements = 0; accesses = record { items = [] }; outcome = outcomes.Diverged (length new.step.made) x (Some a) } → now ≡ s → left ≡ K → bus ≡ new.bus → ReportsOnce stepping s K b r now left bus
     reports_differs x a r now left bus o =
         let stood : Stood (why_by (outcomes.Diverged (length new.step.made) x (Some a))) start new = rw o at tried.moves.stood in
         let at : expected K (length new.step.made) ≡ Some x = rw kept-same at stood.1 in
@@ -424,14 +433,13 @@ plain-left (outcomes.Handoff h) made K p = refl
 plain-left outcomes.Unhandled made K p = refl
 plain-left (outcomes.BusFault a) made K p = cc
 plain-left (outcomes.Diverged at kept wanted) made K p = cc
-plain-left (outcomes.Unbuilt r) made K p = refl
 
 then-or : (done : Bool) (before after : State) → (done ≡ false → after ≡ before) → (if done then after else before) ≡ after
 then-or true before after h = refl
 then-or false before after h = sym (h refl)
 
 module _ (stepping : Supply → Stepped) (s : State) (v : View) (K : Kept) (b : BusView) (none : v.made ≡ []) (ok : IsKept K.answers K.asked) (row : Option Row) (after : State) (new : Sight) (ag : Agrees K.answers K.asked new.step.made) where
-  plain-reports : (o : Outcome) → is_plain o ≡ true → (u : Option Access) → Tried stepping (record { step = v; kept = K; bus = b }) row o after new → expected K (length new.step.made) ≡ u → (r : Report) (now : State) (left : Kept) (bus : BusView) → r ≡ told_by row (judged o (length new.step.made) u) new.step.made → now ≡ state_by (judged o (length new.step.made) u) s after → left ≡ left_by (judged o (length new.step.made) u) new.step.made K → bus ≡ new.bus → (is_done o ≡ false → after ≡ s) → Reports stepping s K b r now left bus
+  plain-reports : (o : Outcome) → is_plain o ≡ true → (u : Option Access) → Tried stepping (record { step = v; kept = K; bus = b }) row o after new → expected K (length new.step.made) ≡ u → (r : Report) (now : State) (left : Kept) (bus : BusView) → r ≡ told_by row (judged o (length new.step.made) u) new.step.made → now ≡ state_by (judged o (length new.step.made) u) s after → left ≡ left_by (judged o (length new.step.made) u) new.step.made K → bus ≡ new.bus → (is_done o ≡ false → after ≡ s) → ReportsOnce stepping s K b r now left bus
   plain-reports o p None tried e r now left bus told is keeps bus_is stay =
       let whole : (if is_diverged o then [] else new.step.made) ≡ new.step.made = rw (plain-same o p) refl in
       reports_ended stepping s v K b none ok row o after new tried ag r now left bus p e (told ∙ ap (λ ms. record { row = row; finished = if is_done o then row else None; elements = if is_done o then 1 else 0; accesses = record { items = ms }; outcome = o }) whole) (is ∙ then-or (is_done o) s after stay) (keeps ∙ plain-left o new.step.made K p) bus_is stay
@@ -444,7 +452,7 @@ module _ (stepping : Supply → Stepped) (s : State) (v : View) (K : Kept) (b : 
   judged-not o at (Some x) p = rw p refl
 
   -- what a call reports of a step that was tried and judged
-  pub reports : (o : Outcome) (u : Option Access) → Tried stepping (record { step = v; kept = K; bus = b }) row o after new → expected K (length new.step.made) ≡ u → (r : Report) (now : State) (left : Kept) (bus : BusView) → r ≡ told_by row (judged o (length new.step.made) u) new.step.made → now ≡ state_by (judged o (length new.step.made) u) s after → left ≡ left_by (judged o (length new.step.made) u) new.step.made K → bus ≡ new.bus → (is_done o ≡ false → after ≡ s) → Reports stepping s K b r now left bus
+  pub reports : (o : Outcome) (u : Option Access) → Tried stepping (record { step = v; kept = K; bus = b }) row o after new → expected K (length new.step.made) ≡ u → (r : Report) (now : State) (left : Kept) (bus : BusView) → r ≡ told_by row (judged o (length new.step.made) u) new.step.made → now ≡ state_by (judged o (length new.step.made) u) s after → left ≡ left_by (judged o (length new.step.made) u) new.step.made K → bus ≡ new.bus → (is_done o ≡ false → after ≡ s) → ReportsOnce stepping s K b r now left bus
   reports (outcomes.Pending a) u tried e r now left bus told is keeps bus_is stay =
       let o = judged-not (outcomes.Pending a) (length new.step.made) u refl in
       let stood : StandsAt a new = tried.moves.stood.0 in
@@ -465,4 +473,3 @@ module _ (stepping : Supply → Stepped) (s : State) (v : View) (K : Kept) (b : 
   reports (outcomes.Event kind vector next) u tried e r now left bus told is keeps bus_is stay = plain-reports (outcomes.Event kind vector next) refl u tried e r now left bus told is keeps bus_is stay
   reports (outcomes.Handoff h) u tried e r now left bus told is keeps bus_is stay = plain-reports (outcomes.Handoff h) refl u tried e r now left bus told is keeps bus_is stay
   reports outcomes.Unhandled u tried e r now left bus told is keeps bus_is stay = plain-reports outcomes.Unhandled refl u tried e r now left bus told is keeps bus_is stay
-  reports (outcomes.Unbuilt x) u tried e r now left bus told is keeps bus_is stay = plain-reports (outcomes.Unbuilt x) refl u tried e r now left bus told is keeps bus_is stay

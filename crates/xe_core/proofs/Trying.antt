@@ -1,4 +1,4 @@
-use Rattle.std.proofs.Common.{ℕ, ◌≡◌, ◌≤◌, ◌+◌, List, [], ◌∷◌, ◌++◌, length, drop, true, Option, Some, None, Result, Ok, Err, refl, sym, ap, subst, ◌∙◌, arith}
+use Rattle.std.proofs.Common.{ℕ, ◌≡◌, List, [], ◌∷◌, ◌++◌, true, Option, Some, None, Result, Ok, Err, refl, sym, ap, subst, ◌∙◌, arith}
 use Rattle.std.proofs.lemmas.List.{append-nil}
 use Rattle.std.proofs.lemmas.List.Elements.{All-nil}
 use Rattle.xe_base.specs.Access.{IsWellMade}
@@ -6,15 +6,15 @@ use Rattle.xe_base.specs.declared.access.Access.{Access}
 use Rattle.xe_base.specs.declared.access.Made.{Made}
 use Rattle.xe_opmap.specs.declared.row.Row.{Row}
 use Rattle.xe_ctx.specs.Bus.{BusView}
-use Rattle.xe_core.specs.Call.{standing, StandsEach, ComesTo, is_plain, why_by, Tried}
-use Rattle.xe_ctx.specs.Is.{Sight, Moves, Plays, Leaves, Stood, Comes, WaitsForOne, AsksEach, IsAt, Equals, Is, is, does, why_of, fresh, supply_of}
+use Rattle.xe_core.specs.Call.{standing, StandsEach}
+use Rattle.xe_core.specs.Tried.{ComesTo, is_plain, why_by, Tried}
+use Rattle.xe_ctx.specs.Is.{Sight, Moves, Leaves, Stood, Comes, WaitsForOne, AsksEach, Equals, Is, is, does, why_of, supply_of}
 use Rattle.xe_ctx.specs.Kept.{Kept}
-use Rattle.xe_ctx.specs.Part.{View, Ran, Waits}
+use Rattle.xe_ctx.specs.Part.{View, Waits}
 use Rattle.xe_ctx.specs.Run.{run}
 use Rattle.xe_ctx.specs.State.{State}
 use Rattle.xe_core.specs.Step.{Stepped, Ends, Wants, concluded, early, outcome_of, retired}
 use Rattle.xe_ctx.specs.Supply.{Supply, Supplies, Lack, Lacks, Unanswered, answers_alone, answers, next_answer}
-use Rattle.xe_ctx.specs.Tape.{Tape}
 use Rattle.xe_ctx.specs.Tree.{Tree}
 use Rattle.xe_ctx.specs.declared.report.Outcome.{Outcome}
 use Rattle.xe_ctx.specs.declared.report.Outcome.TheVariants as outcomes

@@ -1,24 +1,24 @@
-use Rattle.std.specs.Prelude.{ℕ, ◌+◌, ◌-◌, ◌≡◌, ◌≤◌, List, [], ◌∷◌, ◌++◌, length, drop, All, Bool, true, false, if◌then◌else◌, None, Option, Some}
+use Rattle.std.specs.Prelude.{ℕ, ◌+◌, ◌-◌, ◌<◌, ◌^◌, ◌≡◌, ◌≤◌, List, [], ◌∷◌, ◌++◌, length, drop, All, Bool, true, false, if◌then◌else◌, None, Option, Some, IsSome}
 use Rattle.xe_base.specs.Access.{IsWellMade}
 use Rattle.xe_base.specs.declared.access.Access.{Access}
+use Rattle.xe_base.specs.declared.access.Answer.{Answer}
 use Rattle.xe_base.specs.declared.access.Made.{Made}
 use Rattle.xe_opmap.specs.declared.row.Row.{Row}
 use Rattle.xe_ctx.specs.Bus.{BusView, Rose}
-use Rattle.xe_ctx.specs.Is.{Sight, Moves}
 use Rattle.xe_ctx.specs.Kept.{Kept, nothing, same_access}
 use Rattle.xe_ctx.specs.State.{State}
-use Rattle.xe_core.specs.Step.{Ended, Wanted, Stepped, Ends, Wants, outcome_of, is_done, is_diverged}
+use Rattle.xe_core.specs.Step.{Stepped, Ends, Wants, outcome_of, is_done, is_diverged}
+use Rattle.xe_core.specs.Turn.{Steps, Turn, turn, leaves_more, after_steps, Silent}
 use Rattle.xe_ctx.specs.Supply.{Supply, Supplies, Lack, Lacks, Unanswered, Unready, Failing, answers_alone, answers, from_tape, next_answer}
 use Rattle.xe_ctx.specs.Tape.{Tape, Key}
 use Rattle.xe_ctx.specs.declared.report.Outcome.{Outcome}
 use Rattle.xe_ctx.specs.declared.report.Outcome.TheVariants as outcomes
 use Rattle.xe_ctx.specs.declared.report.Report.{Report}
 use Rattle.xe_ctx.specs.declared.stop.Diverged.{Diverged}
-use Rattle.xe_ctx.specs.declared.stop.Stop.{Stop}
 use Rattle.xe_ctx.specs.declared.stop.Stop.TheVariants as stops
 
--- One call of the emulator: a step that takes its first answers from a record. What a step comes to with some answers is handed in, as
--- `stepping`.
+-- One call of the emulator: a turn whose first step takes its first answers from a record. What a step comes to with some answers is
+-- handed in, as `stepping`; and from which state, as `steps`.
 
 -- ---- a record and its step
 
@@ -84,28 +84,32 @@ waiting Unanswered a = outcomes.Pending a
 waiting Unready a = outcomes.Pending a
 waiting Failing a = outcomes.BusFault a
 
--- A call that suspends its step keeps what the step has made, and what it asked; at any other end nothing is kept.
-abbrev pub called : State → Stepped → Call
-called s (Ends e) = record {
+-- A call that suspends its last step keeps what the step has made, and what it asked; at any other end nothing is kept.
+abbrev pub called_by : Turn → Stepped → Call
+called_by t (Ends e) = record {
   row = e.row;
-  finished = if is_done e.outcome then e.row else None;
-  elements = if is_done e.outcome then 1 else 0;
+  finished = t.finished;
+  elements = t.elements;
   accesses = e.made;
   outcome = e.outcome;
-  state = e.state;
+  state = t.state;
   kept = nothing;
   tape = e.rest.tape;
 }
-called s (Wants w) = record {
+called_by t (Wants w) = record {
   row = w.row;
-  finished = None;
-  elements = 0;
+  finished = t.finished;
+  elements = t.elements;
   accesses = w.made;
   outcome = waiting w.lack w.access;
-  state = s;
+  state = t.state;
   kept = record { answers = w.made; asked = Some w.access };
   tape = w.rest.tape;
 }
+
+-- the call that a turn is
+abbrev pub called : Turn → Call
+called t = called_by t t.last
 
 -- a call whose record belongs to another step: it tells where, and leaves all as it was
 abbrev pub diverged : Divergence → State → Kept → Option Tape → Call
@@ -120,14 +124,18 @@ diverged d s kept tape = record {
   tape = tape;
 }
 
--- the step goes on from the kept answers, and each further access is asked once
-abbrev pub resumed : Option Divergence → (Supply → Stepped) → State → Kept → Option Tape → Call
-resumed (Some d) stepping s kept tape = diverged d s kept tape
-resumed None stepping s kept tape = called s (stepping (record { given = answers kept.answers; tape = tape }))
+-- what the answers of a call come from: the kept ones, and behind them the script
+abbrev pub resuming : Kept → Option Tape → Supply
+resuming kept tape = record { given = answers kept.answers; tape = tape }
 
--- one call from a state with a record, over a script
-abbrev pub one_call : (Supply → Stepped) → State → Kept → Tape → Call
-one_call stepping s kept t = resumed (divergence stepping kept) stepping s kept (Some t)
+-- the turn goes on from the kept answers, and each further access is asked once
+abbrev pub resumed : Option Divergence → Steps → ℕ → State → Kept → Option Tape → Call
+resumed (Some d) steps n s kept tape = diverged d s kept tape
+resumed None steps n s kept tape = called (turn steps n s (resuming kept tape))
+
+-- one call of a turn of at most n steps, from a state with a record, over a script
+abbrev pub one_call : Steps → ℕ → State → Kept → Tape → Call
+one_call steps n s kept t = resumed (divergence (steps s) kept) steps n s kept (Some t)
 
 -- a call as a report tells it, with the state, the record and the script then
 abbrev pub reported : Report → State → Kept → Option Tape → Call
@@ -147,18 +155,21 @@ abbrev pub lacking : Outcome → Stepped → Stepped
 lacking (outcomes.BusFault a) (Wants w) = Wants (record w { lack = Failing })
 lacking _ came = came
 
+abbrev pub lacking_last : Outcome → Turn → Turn
+lacking_last o t = record t { last = lacking o t.last }
+
 -- What a call says of the definition over any bus: where the record belongs to another step, that is told; else the record's answers
--- come first among those of the accesses made, and with these answers alone the step comes to the same.
-abbrev pub Tells : Option Divergence → (Supply → Stepped) → State → Kept → Report → State → Kept → Type 0
-Tells (Some d) stepping s kept r after left = diverged d s kept None ≡ reported r after left None
-Tells None stepping s kept r after left = (rest : List Made) × (r.accesses.items ≡ kept.answers ++ rest) × (called s (lacking r.outcome (stepping (answers_alone (answers r.accesses.items)))) ≡ reported r after left None)
+-- come first among those of the accesses made, and with these answers alone the turn comes to the same.
+abbrev pub Tells : Option Divergence → Steps → ℕ → State → Kept → Report → State → Kept → Type 0
+Tells (Some d) steps n s kept r after left = diverged d s kept None ≡ reported r after left None
+Tells None steps n s kept r after left = (rest : List Made) × (r.accesses.items ≡ kept.answers ++ rest) × (called (lacking_last r.outcome (turn steps n s (answers_alone (answers r.accesses.items)))) ≡ reported r after left None)
 
 -- what a call does where the bus tells its script: it is that of the script, whose log has grown by exactly the accesses that weren't
 -- kept
-pub record FollowsTape (stepping : Supply → Stepped) (s : State) (kept : Kept) (t : Tape) (r : Report) (after : State) (left : Kept) (new : Option Tape) : Type 0 where
+pub record FollowsTape (steps : Steps) (n : ℕ) (s : State) (kept : Kept) (t : Tape) (r : Report) (after : State) (left : Kept) (new : Option Tape) : Type 0 where
   pub tape : Tape
   pub after_is : new ≡ Some tape
-  pub call : one_call stepping s kept t ≡ reported r after left (Some tape)
+  pub call : one_call steps n s kept t ≡ reported r after left (Some tape)
   pub log : tape.log ≡ t.log ++ drop (length kept.answers) r.accesses.items
 
 -- a call that ended at a device that wasn't ready, or failed, has counted it
@@ -166,6 +177,28 @@ abbrev pub Counted : Outcome → BusView → BusView → Type 0
 Counted (outcomes.Pending a) old new = Rose old.unready new.unready
 Counted (outcomes.BusFault a) old new = Rose old.faults new.faults
 Counted _ old new = Unit {0}
+
+-- how many steps finished before the last one
+abbrev pub steps_before : Report → ℕ
+steps_before r = if is_done r.outcome then r.elements - 1 else r.elements
+
+-- the state at the start of the last step
+abbrev pub before_last : Steps → State → Report → State
+before_last steps s r = after_steps steps (steps_before r) s (answers_alone [])
+
+-- the report of the last step alone
+abbrev pub alone : Report → Report
+alone r = record r { elements = if is_done r.outcome then 1 else 0; finished = if is_done r.outcome then r.row else None }
+
+-- Each step before the last finished, left elements to be done and made no access. Behind the last one no other may follow, and from the
+-- state before it this step is a call of its own.
+pub record Led (steps : Steps) (n : ℕ) (s : State) (kept : Kept) (r : Report) (after : State) (left : Kept) : Type 0 where
+  pub row : Option Row
+  pub silent : Silent steps s (steps_before r) row (before_last steps s r)
+  pub within : steps_before r < n
+  pub finished : r.finished ≡ (if is_done r.outcome then r.row else row)
+  pub over : leaves_more r.outcome r.accesses.items ≡ true → r.elements ≡ n
+  pub last : Tells (divergence (steps (before_last steps s r)) kept) steps 1 (before_last steps s r) kept (alone r) after left
 
 -- at a device that wasn't ready, or failed, the step stands at that access, with the answers of the accesses that were made
 abbrev pub Stands : Outcome → (Supply → Stepped) → Option Row → List Made → Type 0
@@ -184,13 +217,37 @@ pub record Played (kept : Kept) (t : Tape) (r : Report) (new : Option Tape) : Ty
   pub tape : Tape
   pub after_is : new ≡ Some tape
   pub mid : Supply
-  pub supplies : Supplies (record { given = answers kept.answers; tape = Some t }) r.accesses.items mid
+  pub supplies : Supplies (resuming kept (Some t)) r.accesses.items mid
   pub left : LeftBy r.outcome mid (from_tape tape)
 
--- what a call reports, and what it leaves: the state, the record and the bus
-pub record Reports (stepping : Supply → Stepped) (s : State) (kept : Kept) (old : BusView) (r : Report) (after : State) (left : Kept) (new : BusView) : Type 0 where
-  pub tells : Tells (divergence stepping kept) stepping s kept r after left
-  pub told : (t : Tape) → old.tape ≡ Some t → FollowsTape stepping s kept t r after left new.tape
+-- ---- completeness
+
+-- neither count of a bus rose, and both stand below their last values
+pub record Steady (old new : BusView) : Type 0 where
+  pub unready_ : new.unready ≤ old.unready
+  pub below_unready : new.unready < 2 ^ 64 - 1
+  pub faults_ : new.faults ≤ old.faults
+  pub below_faults : new.faults < 2 ^ 64 - 1
+
+-- the last step of a turn finished
+abbrev pub has_finished : Stepped → Bool
+has_finished (Ends e) = is_done e.outcome
+has_finished (Wants w) = false
+
+-- whatever answers would follow those that were given: where the turn ends in a finished step with them, the call does
+abbrev pub Completes : Steps → ℕ → State → Report → Type 0
+Completes steps n s r = (more : List Answer) → has_finished (turn steps n s (answers_alone (answers r.accesses.items ++ more))).last ≡ true → is_done r.outcome ≡ true
+
+-- the same over a script, which tells the answers that follow
+abbrev pub CompletesOver : Steps → ℕ → State → Kept → Tape → Report → Type 0
+CompletesOver steps n s kept t r = has_finished (turn steps n s (resuming kept (Some t))).last ≡ true → is_done r.outcome ≡ true
+
+-- ---- all that a call says
+
+-- what a call of a turn of at most n steps reports, and what it leaves: the state, the record and the bus
+pub record Reports (steps : Steps) (n : ℕ) (s : State) (kept : Kept) (old : BusView) (r : Report) (after : State) (left : Kept) (new : BusView) : Type 0 where
+  pub tells : Tells (divergence (steps s) kept) steps n s kept r after left
+  pub told : (t : Tape) → old.tape ≡ Some t → FollowsTape steps n s kept t r after left new.tape
   pub untold : old.tape ≡ None → new.tape ≡ None
   pub room_ : old.room ≤ new.room + (length r.accesses.items - length kept.answers)
   pub spare_ : (k : Key) → new.spare k ≡ old.spare k
@@ -198,77 +255,16 @@ pub record Reports (stepping : Supply → Stepped) (s : State) (kept : Kept) (ol
   pub faults_ : old.faults ≤ new.faults
   pub counted : Counted r.outcome old new
   pub well_made : All IsWellMade r.accesses.items
-  pub stays : is_done r.outcome ≡ false → after ≡ s
+  pub few : r.elements ≤ n
+  pub single : IsSome kept.asked → r.elements ≡ (if is_done r.outcome then 1 else 0)
+  pub stays : after ≡ after_steps steps r.elements s (answers_alone (answers r.accesses.items))
+  pub led : Led steps n s kept r after left
   -- the record that is left belongs to the step that comes next
-  pub fits_ : is_diverged r.outcome ≡ false → divergence stepping left ≡ None
-  pub emptied : is_done r.outcome ≡ true → left ≡ nothing
-  -- each of its accesses is the one that the step stands at with the answers before it alone
-  pub asks : is_diverged r.outcome ≡ false → StandsEach stepping r.row [] r.accesses.items
-  pub stands : Stands r.outcome stepping r.row r.accesses.items
-  pub fitting : divergence stepping kept ≡ None → is_diverged r.outcome ≡ false
+  pub fits_ : is_diverged r.outcome ≡ false → Fits (steps after) left
+  -- each of the accesses is the one that the last step stands at with the answers before it alone
+  pub asks : is_diverged r.outcome ≡ false → StandsEach (steps (before_last steps s r)) r.row [] r.accesses.items
+  pub stands : Stands r.outcome (steps (before_last steps s r)) r.row r.accesses.items
+  pub fitting : Fits (steps s) kept → is_diverged r.outcome ≡ false
   pub plays : (t : Tape) → old.tape ≡ Some t → is_diverged r.outcome ≡ false → Played kept t r new.tape
-
--- ---- a step that was tried, before it is judged whether the record belongs to it
-
--- the step stands at an access
-abbrev pub StandsThere : Stepped → Option Row → Access → List Made → Supply → Type 0
-StandsThere came row a made rest = (lack : Lack) (left : Supply) → next_answer rest a ≡ Lacks lack left → came ≡ Wants (record { row = row; access = a; lack = lack; made = made; rest = left })
-
-abbrev pub StandsThereAt : Stepped → Option Row → Option Access → List Made → Supply → Type 0
-StandsThereAt came row None made rest = ⊥
-StandsThereAt came row (Some a) made rest = StandsThere came row a made rest
-
--- what the step comes to, by the end that the code came to, with the answers left behind those of its accesses
-abbrev pub ComesTo : Stepped → Option Row → Outcome → State → List Made → Supply → Type 0
-ComesTo came row (outcomes.Pending a) after made rest = StandsThere came row a made rest
-ComesTo came row (outcomes.BusFault a) after made rest = StandsThere came row a made rest
-ComesTo came row (outcomes.Diverged at kept wanted) after made rest = StandsThereAt came row wanted made rest
-ComesTo came row outcome after made rest = came ≡ Ends (record { row = row; outcome = outcome; state = after; made = made; rest = rest })
-
--- an end that the definition has
-abbrev pub is_plain : Outcome → Bool
-is_plain (outcomes.Pending a) = false
-is_plain (outcomes.BusFault a) = false
-is_plain (outcomes.Diverged at kept wanted) = false
-is_plain _ = true
-
--- why the code stopped, where that isn't an end of the definition
-abbrev pub why_by : Outcome → Option Stop
-why_by (outcomes.Pending a) = Some (stops.Pending a)
-why_by (outcomes.BusFault a) = Some (stops.BusFault a)
-why_by (outcomes.Diverged at kept wanted) = Some (stops.Diverged (record { at = at; kept = kept; wanted = wanted }))
-why_by _ = None
-
--- what is known of a step that was tried: from the sight at its start, by the row, the end and the state that it came to
-pub record Tried (stepping : Supply → Stepped) (old : Sight) (row : Option Row) (outcome : Outcome) (after : State) (new : Sight) : Type 0 where
-  pub moves : Moves old new.step.made (why_by outcome) new
-  pub comes : (supply rest : Supply) → Supplies supply new.step.made rest → ComesTo (stepping supply) row outcome after new.step.made rest
-  pub stands : StandsEach stepping row [] new.step.made
-
--- ---- the judgement
-
--- a step that came to an end of its own, and hasn't reached this access of the record, belongs to another record
-abbrev pub judged : Outcome → ℕ → Option Access → Outcome
-judged outcome at None = outcome
-judged outcome at (Some kept) = if is_plain outcome then outcomes.Diverged at kept None else outcome
-
--- what the report says of a step that ended so
-abbrev pub told_by : Option Row → Outcome → List Made → Report
-told_by row outcome made = record {
-  row = row;
-  finished = if is_done outcome then row else None;
-  elements = if is_done outcome then 1 else 0;
-  accesses = record { items = if is_diverged outcome then [] else made };
-  outcome = outcome;
-}
-
--- what the record keeps afterwards
-abbrev pub left_by : Outcome → List Made → Kept → Kept
-left_by (outcomes.Pending a) made old = record { answers = made; asked = Some a }
-left_by (outcomes.BusFault a) made old = record { answers = made; asked = Some a }
-left_by (outcomes.Diverged at kept wanted) made old = old
-left_by _ made old = nothing
-
--- the state afterwards
-abbrev pub state_by : Outcome → State → State → State
-state_by outcome before after = if is_done outcome then after else before
+  pub completes : Fits (steps s) kept → Steady old new → Completes steps n s r
+  pub completes_over : (t : Tape) → old.tape ≡ Some t → Fits (steps s) kept → CompletesOver steps n s kept t r

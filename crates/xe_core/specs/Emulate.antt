@@ -19,14 +19,19 @@ use Rattle.xe_ctx.specs.Supply.{Supply}
 use Rattle.xe_ctx.specs.declared.report.Outcome.{Outcome}
 use Rattle.xe_ctx.specs.declared.report.Outcome.TheVariants.{Pending, BusFault, Unhandled}
 use Rattle.xe_core.specs.Rows.{table}
+use Rattle.xe_core.specs.Turn.{Steps}
 
 -- what bytes begin with, by the opcode maps
 abbrev pub decoding : CodeSize → List ℕ → Decoded
 decoding size bytes = finished (decode_part size bytes)
 
--- one step of the instructions that are built, with these intercepts and these answers
+-- one step over the instruction table, with these intercepts and these answers
 abbrev pub step_of : State → (Point → Option Exit) → Supply → Stepped
 step_of = step table decoding
+
+-- the same from any state
+abbrev pub steps_of : (Point → Option Exit) → Steps
+steps_of hits s = step_of s hits
 
 -- ---- the instruction at CS:RIP
 

@@ -1,24 +1,26 @@
-//! One call of the emulator.
+//! One call of the emulator: a turn of steps.
 
-ghost use Rattle.std.specs.Prelude.{◌≡◌, ◌≤◌, ◌<◌, ◌+◌, ◌-◌, [], ℕ, true, false, None, List, length, All, if◌then◌else◌};
+ghost use Rattle.std.specs.Prelude.{◌≡◌, ◌≤◌, ◌<◌, ◌+◌, ◌-◌, ◌^◌, [], ℕ, true, false, None, List, length, All, IsSome, if◌then◌else◌};
 ghost use Rattle.xe_base.specs.Access.{IsWellMade};
 ghost use Rattle.xe_base.specs.declared.access.Made.{Made};
 ghost use Rattle.xe_base.specs.State.{Valid};
-ghost use Rattle.xe_icpt.specs.declared.exit.Exit.{Exit};
 ghost use Rattle.xe_ctx.specs.Bus.{HasRoom};
-ghost use Rattle.xe_core.specs.Call.{Reports, FollowsTape, Tells, Counted, Tried, StandsEach, Stands, Played, divergence, Fits, judged, told_by, left_by, is_plain};
+ghost use Rattle.xe_core.specs.Call.{Reports, FollowsTape, Tells, Counted, StandsEach, Stands, Led, Played, Steady, Completes, CompletesOver, before_last, divergence, Fits};
+ghost use Rattle.xe_core.specs.Tried.{Tried, Went, Did, judged, told_by, left_by, is_plain};
+ghost use Rattle.xe_core.specs.Turn.{after_steps, leaves_more};
 ghost use Rattle.xe_ctx.specs.Kept.{nothing};
 ghost use Rattle.xe_ctx.specs.Recorded.{kept_of};
 ghost use Rattle.xe_ctx.specs.Machine.{state_of};
 ghost use Rattle.xe_ctx.specs.Part.{begins};
 ghost use Rattle.xe_core.specs.Step.{tf, is_done, is_diverged};
+ghost use Rattle.xe_ctx.specs.Supply.{answers, answers_alone};
 ghost use Rattle.xe_ctx.specs.Tape.{Tape, Key};
 ghost use Rattle.xe_ctx.specs.View.{view, cpu_of, state_in, kept_in, made_in, work_of, code_of, SameHandles, IsOpen, accesses_left, bytes_left, unused, kept_after, CanKeep};
-ghost use Rattle.xe_core.specs.Emulate.{step_of, after_by, Keepable};
+ghost use Rattle.xe_core.specs.Emulate.{step_of, steps_of, after_by, Keepable};
 
 use crate::fetch::{instruction, outcome_of};
 use crate::rows::exec;
-use xe_base::{Cpu, Fault, INVALID_OPCODE};
+use xe_base::{Cpu, Fault, INVALID_OPCODE, Made};
 use xe_ctx::{Bus, Ctx, Diverged, End, Machine, Outcome, Record, Report, Stop};
 use xe_icpt::Intercepts;
 use xe_opmap::Row;
@@ -49,8 +51,7 @@ fn is_plain(outcome: &Outcome) -> bool
         | Outcome::Intercept(_)
         | Outcome::Event { .. }
         | Outcome::Handoff(_)
-        | Outcome::Unhandled
-        | Outcome::Unbuilt(_) => true,
+        | Outcome::Unhandled => true,
     }
 }
 
@@ -67,8 +68,32 @@ fn is_done(outcome: &Outcome) -> bool
         | Outcome::Handoff(_)
         | Outcome::Unhandled
         | Outcome::BusFault(_)
-        | Outcome::Diverged { .. }
-        | Outcome::Unbuilt(_) => false,
+        | Outcome::Diverged { .. } => false,
+    }
+}
+
+/// What a turn has come to so far: how many of its steps finished, and the row of the last of these.
+#[derive(Clone, Copy)]
+pub(crate) struct SoFar {
+    pub(crate) elements: u32,
+    pub(crate) finished: Option<Row>,
+}
+
+/// Whether another step may follow one that ended so, with these accesses: it leaves elements to be
+/// done, and made no access.
+fn leaves_more(outcome: &Outcome, made: &[Made]) -> bool
+    ensures { result ≡ leaves_more outcome.now made.now }
+{
+    match outcome {
+        Outcome::Done { more, .. } => *more && made.is_empty(),
+        Outcome::Pending(_)
+        | Outcome::Fault(_)
+        | Outcome::Intercept(_)
+        | Outcome::Event { .. }
+        | Outcome::Handoff(_)
+        | Outcome::Unhandled
+        | Outcome::BusFault(_)
+        | Outcome::Diverged { .. } => false,
     }
 }
 
@@ -94,21 +119,25 @@ fn attempt<B: Bus, I: Intercepts>(ctx: &mut Ctx<B, I>, cpu: &mut Cpu) -> (Option
     ctx.accept(insn.len);
     let row = Some(insn.row);
     match exec(&insn, ctx, cpu) {
-        None => (row, Outcome::Unbuilt(row)),
-        Some(Ok(End { more, retire })) => {
+        Ok(End { more, retire }) => {
             let retire = retired(retire, is_trapped);
             (row, Outcome::Done { more, retire })
         }
-        Some(Err(stop)) => (row, outcome_of(stop)),
+        Err(stop) => (row, outcome_of(stop)),
     }
 }
 
-/// How the call ends: as the step did; or, where the step came to an end of its own and hasn't reached all
-/// that the record has, with that.
-fn judged<B: Bus, I: Intercepts>(ctx: &Ctx<B, I>, outcome: Outcome) -> Outcome
-    requires { IsOpen B.sight ctx.now }
+/// How a step ends: as it did; or, where it came to an end of its own and hasn't reached all that the
+/// record has, with that. Only the first step of a turn can have a record.
+#[tactic(auto, using(crate::proofs::CallLaws::nothing_unused))]
+fn judged<B: Bus, I: Intercepts>(ctx: &Ctx<B, I>, is_first: bool, outcome: Outcome) -> Outcome
+    requires open { IsOpen B.sight ctx.now }
+    requires later { is_first ≡ false → kept_in ctx.now ≡ nothing }
     ensures { result ≡ judged outcome (length (made_in ctx.now)) (unused (kept_in ctx.now) (made_in ctx.now)) }
 {
+    if !is_first {
+        return outcome;
+    }
     match ctx.unused() {
         Some((at, kept)) if is_plain(&outcome) => Outcome::Diverged {
             at,
@@ -119,26 +148,38 @@ fn judged<B: Bus, I: Intercepts>(ctx: &Ctx<B, I>, outcome: Outcome) -> Outcome
     }
 }
 
-/// Tells of the call: the accesses of its step, kept ones included; none where the record belongs to
-/// another step.
+/// What the turn has come to, where it may go on behind this step and does. Else the report tells of
+/// the turn, with the accesses of this step, kept ones included; with none where the record belongs
+/// to another step.
 fn tell<B: Bus, I: Intercepts>(
     ctx: &Ctx<B, I>,
     row: Option<Row>,
     outcome: Outcome,
+    so_far: SoFar,
+    may_go_on: bool,
     report: &mut Report,
-)
-    requires { IsOpen B.sight ctx.now }
-    ensures { report.new ≡ told_by row outcome (made_in ctx.now) }
+) -> Option<SoFar>
+    requires open { IsOpen B.sight ctx.now }
+    requires few { so_far.elements < 2 ^ 32 - 1 }
+    ensures { Went so_far may_go_on (told_by row outcome (made_in ctx.now)) result report.new }
 {
-    match outcome {
-        Outcome::Done { .. } => report.tell(row, row, 1, ctx.made(), outcome),
-        Outcome::Diverged { .. } => report.tell(row, None, 0, &[], outcome),
-        _ => report.tell(row, None, 0, ctx.made(), outcome),
+    if may_go_on && leaves_more(&outcome, ctx.made()) {
+        return Some(SoFar {
+            elements: so_far.elements + 1,
+            finished: row,
+        });
     }
+    let SoFar { elements, finished } = so_far;
+    match outcome {
+        Outcome::Done { .. } => report.tell(row, row, elements + 1, ctx.made(), outcome),
+        Outcome::Diverged { .. } => report.tell(row, finished, elements, &[], outcome),
+        _ => report.tell(row, finished, elements, ctx.made(), outcome),
+    }
+    None
 }
 
-/// The stop by which a step is given up. One that the table doesn't have, or that isn't built, leaves
-/// nothing in the record, as an exception does.
+/// The stop by which a step is given up. One that the table doesn't have leaves nothing in the record,
+/// as an exception does.
 fn stop_by(outcome: &Outcome) -> Stop
     ensures kept { kept_after result ≡ left_by outcome.now }
     ensures keeps { (made : List Made) → Keepable outcome.now made → CanKeep result made }
@@ -152,56 +193,95 @@ fn stop_by(outcome: &Outcome) -> Stop
         | Outcome::Intercept(_)
         | Outcome::Event { .. }
         | Outcome::Handoff(_)
-        | Outcome::Unhandled
-        | Outcome::Unbuilt(_) => Stop::Fault(Fault::plain(INVALID_OPCODE)),
+        | Outcome::Unhandled => Stop::Fault(Fault::plain(INVALID_OPCODE)),
     }
 }
 
-/// One call, with all that it says in one record.
-fn one_call<B: Bus, I: Intercepts>(
+/// One step of a turn, with a draft that has the machine's registers: what the turn has come to, where
+/// it may go on and does, and the draft has the machine's registers again. Else the report tells of
+/// the turn.
+fn step<B: Bus, I: Intercepts>(
     m: &mut Machine,
     icpt: &I,
     bus: &mut B,
     rec: &mut Record,
+    cpu: &mut Cpu,
+    so_far: SoFar,
+    may_go_on: bool,
     report: &mut Report,
-)
-    requires { HasRoom (B.sight bus.old) (256 - length (kept_of rec.old).answers) }
-    ensures reports { Reports (step_of (state_of m.old) (I.hits icpt.now)) (state_of m.old) (kept_of rec.old) (B.sight bus.old) report.new (state_of m.new) (kept_of rec.new) (B.sight bus.new) }
+) -> Option<SoFar>
+    requires room { HasRoom (B.sight bus.old) (256 - length (kept_of rec.old).answers) }
+    requires draft { cpu.old ≡ (state_of m.old).cpu }
+    requires few { so_far.elements < 2 ^ 32 - 1 }
+    requires later { 0 < so_far.elements → kept_of rec.old ≡ nothing }
+    ensures did { Did (step_of (state_of m.old) (I.hits icpt.now)) (state_of m.old) (kept_of rec.old) (B.sight bus.old) so_far may_go_on result report.new (state_of m.new) (kept_of rec.new) (B.sight bus.new) }
+    ensures draft { IsSome result → cpu.new ≡ (state_of m.new).cpu }
 {
     let mut ctx = Ctx::begin(m, icpt, bus, rec);
-    let mut cpu = *ctx.cpu();
-    let (row, outcome) = attempt(&mut ctx, &mut cpu);
-    let outcome = judged(&ctx, outcome);
-    tell(&ctx, row, outcome, report);
+    let (row, outcome) = attempt(&mut ctx, cpu);
+    let outcome = judged(&ctx, so_far.elements == 0, outcome);
+    let next = tell(&ctx, row, outcome, so_far, may_go_on, report);
     if is_done(&outcome) {
-        ctx.commit(cpu);
+        ctx.commit(*cpu);
     } else {
         let stop = stop_by(&outcome);
         ctx.end(&stop);
     }
+    next
 }
 
-/// Runs one step of the machine: the instruction at CS:RIP, with the accesses that it makes; and tells
-/// it in a report of the caller's, which can be used again from call to call.
+/// One call, with all that it says in one record. The draft and the report are those of the whole
+/// turn: a step in its middle copies no list and looks at no record.
+fn turn<B: Bus, I: Intercepts>(
+    m: &mut Machine,
+    icpt: &I,
+    bus: &mut B,
+    rec: &mut Record,
+    batch: u32,
+    report: &mut Report,
+)
+    requires batch { 1 ≤ batch }
+    requires room { HasRoom (B.sight bus.old) (256 - length (kept_of rec.old).answers) }
+    ensures reports { Reports (steps_of (I.hits icpt.now)) batch (state_of m.old) (kept_of rec.old) (B.sight bus.old) report.new (state_of m.new) (kept_of rec.new) (B.sight bus.new) }
+{
+    let mut cpu = *m.cpu();
+    let mut so_far = SoFar {
+        elements: 0,
+        finished: None,
+    };
+    for nth in 1..batch {
+        match step(m, icpt, bus, rec, &mut cpu, so_far, true, report) {
+            Some(next) => so_far = next,
+            None => return,
+        }
+    }
+    step(m, icpt, bus, rec, &mut cpu, so_far, false, report);
+}
+
+/// Runs one turn of the machine: the instruction at CS:RIP, or, of a repeated string instruction, up to
+/// `batch` of its elements, each of which is a step of its own; and tells it in a report of the caller's,
+/// which can be used again from call to call.
 ///
-/// The step takes its first answers from the record, and asks the bus for the others, the record's asked
-/// access first; so no device that has answered is asked twice.
+/// The turn ends with the first step that is the `batch`-th, makes a device access, finishes the
+/// instruction, or doesn't finish. So only its last step makes accesses. They take their first answers
+/// from the record, and the bus is asked for the others, the record's asked access first; so no device
+/// that has answered is asked twice. A call whose record isn't empty makes one step.
 ///
-/// - `Done` comes where the instruction finished. Its registers and its stores have taken effect;
-///   `retire` has 8 more where TF was 1 before.
+/// - `Done` comes where the last step finished. Its registers and its stores have taken effect; `more`
+///   says that elements are left; `retire` has 8 more where TF was 1 before the step.
 /// - `Pending` comes where a device isn't ready yet, and `BusFault` where one failed. The record then
 ///   keeps the answers so far, and the access that was asked; the next call goes on from there.
 /// - `Diverged` comes exactly where the record belongs to another step: at the first place at which the
 ///   step's access isn't the one that the record has there. Nothing changes.
-/// - `Fault`, `Intercept`, `Event` and `Handoff` come where the instruction ended so; `Fault` and
+/// - `Fault`, `Intercept`, `Event` and `Handoff` come where the last step ended so; `Fault` and
 ///   `Handoff` also where a byte that it needs can't be had, and #UD (vector 6, without an error
 ///   code) where its encoding is invalid: in these cases the report has no row.
 /// - `Unhandled` comes where the instruction table doesn't have the encoding. There is no row.
-/// - `Unbuilt` comes, with the row, where the table has it and its row, or its form, isn't built.
 ///
-/// At every end but `Done` the machine is as it was. The bytes of an instruction are needed one after
-/// another until it is decided, at most 15 (SDM volume 2, "Instruction Format"); the first that can't be had
-/// decides. For now a call runs one step: `batch` is 1.
+/// At every end the machine is as after the steps that finished, whose number the report has: a step
+/// that doesn't finish changes nothing, and takes none of them back. The bytes of an instruction are
+/// needed one after another until it is decided, at most 15 (SDM volume 2, "Instruction Format"); the
+/// first that can't be had decides.
 pub fn emulate_into<B: Bus, I: Intercepts>(
     m: &mut Machine,
     icpt: &I,
@@ -210,15 +290,15 @@ pub fn emulate_into<B: Bus, I: Intercepts>(
     batch: u32,
     report: &mut Report,
 )
-    requires batch { batch ≡ 1 }
+    requires batch { 1 ≤ batch }
     // Where the bus tells its script, its room and the answers that the record keeps are together at least 256.
     requires room { HasRoom (B.sight bus.old) (256 - length (kept_of rec.old).answers) }
     // Over any bus: where the record belongs to another step, that is told, with the place; else the record's answers come first among
-    // those of the report's accesses, and with these answers the step of the definition comes to the report's end, state and record.
-    ensures tells { Tells (divergence (step_of (state_of m.old) (I.hits icpt.now)) (kept_of rec.old)) (step_of (state_of m.old) (I.hits icpt.now)) (state_of m.old) (kept_of rec.old) report.new (state_of m.new) (kept_of rec.new) }
+    // those of the report's accesses, and with these answers the turn of the definition comes to the report's counts, end, state and record.
+    ensures tells { Tells (divergence (step_of (state_of m.old) (I.hits icpt.now)) (kept_of rec.old)) (steps_of (I.hits icpt.now)) batch (state_of m.old) (kept_of rec.old) report.new (state_of m.new) (kept_of rec.new) }
     // Where the bus tells its script, the whole is one call of the definition over it, and the log has grown by exactly the accesses
     // that weren't kept.
-    ensures told { (t : Tape) → (B.sight bus.old).tape ≡ Some t → FollowsTape (step_of (state_of m.old) (I.hits icpt.now)) (state_of m.old) (kept_of rec.old) t report.new (state_of m.new) (kept_of rec.new) (B.sight bus.new).tape }
+    ensures told { (t : Tape) → (B.sight bus.old).tape ≡ Some t → FollowsTape (steps_of (I.hits icpt.now)) batch (state_of m.old) (kept_of rec.old) t report.new (state_of m.new) (kept_of rec.new) (B.sight bus.new).tape }
     ensures untold { (B.sight bus.old).tape ≡ None → (B.sight bus.new).tape ≡ None }
     ensures room { (B.sight bus.old).room ≤ (B.sight bus.new).room + (length report.new.accesses.items - length (kept_of rec.old).answers) }
     ensures spare { (k : Key) → (B.sight bus.new).spare k ≡ (B.sight bus.old).spare k }
@@ -227,24 +307,33 @@ pub fn emulate_into<B: Bus, I: Intercepts>(
     // Pending comes only where the count of devices that weren't ready rose, and BusFault only where that of failures did.
     ensures counted { Counted report.new.outcome (B.sight bus.old) (B.sight bus.new) }
     ensures well_made { All IsWellMade report.new.accesses.items }
-    // At every other end than Done the machine is as it was.
-    ensures stays { is_done report.new.outcome ≡ false → state_of m.new ≡ state_of m.old }
+    ensures few { report.new.elements ≤ batch }
+    // A call with a record that isn't empty makes one step.
+    ensures alone { IsSome (kept_of rec.old).asked → report.new.elements ≡ (if is_done report.new.outcome then 1 else 0) }
+    // At every end the machine is as after the steps that finished.
+    ensures stays { state_of m.new ≡ after_steps (steps_of (I.hits icpt.now)) report.new.elements (state_of m.old) (answers_alone (answers report.new.accesses.items)) }
     ensures valid { Valid (state_of m.new).cpu }
-    // The record that is left belongs to the step that comes next, unless it belonged to another one before.
-    // Each of the accesses is the one that the step stands at where it has the answers before it alone.
-    ensures asks { is_diverged report.new.outcome ≡ false → StandsEach (step_of (state_of m.old) (I.hits icpt.now)) report.new.row [] report.new.accesses.items }
+    // Each step but the last finished, left elements to be done and made no access; and the last one is a call of its own.
+    ensures led { Led (steps_of (I.hits icpt.now)) batch (state_of m.old) (kept_of rec.old) report.new (state_of m.new) (kept_of rec.new) }
+    // Each of the accesses is the one that the last step stands at where it has the answers before it alone.
+    ensures asks { is_diverged report.new.outcome ≡ false → StandsEach (step_of (before_last (steps_of (I.hits icpt.now)) (state_of m.old) report.new) (I.hits icpt.now)) report.new.row [] report.new.accesses.items }
     // It stands at the access of Pending and BusFault, with the answers of those before.
-    ensures stands { Stands report.new.outcome (step_of (state_of m.old) (I.hits icpt.now)) report.new.row report.new.accesses.items }
+    ensures stands { Stands report.new.outcome (step_of (before_last (steps_of (I.hits icpt.now)) (state_of m.old) report.new) (I.hits icpt.now)) report.new.row report.new.accesses.items }
     // Diverged comes only where the record belongs to another step.
     ensures fitting { Fits (step_of (state_of m.old) (I.hits icpt.now)) (kept_of rec.old) → is_diverged report.new.outcome ≡ false }
     // A bus that tells its script gave, behind the kept answers, what the script gives.
     ensures plays { (t : Tape) → (B.sight bus.old).tape ≡ Some t → is_diverged report.new.outcome ≡ false → Played (kept_of rec.old) t report.new (B.sight bus.new).tape }
+    // The record that is left belongs to the step that comes next, unless it belonged to another one before.
     ensures fits { is_diverged report.new.outcome ≡ false → Fits (step_of (state_of m.new) (I.hits icpt.now)) (kept_of rec.new) }
+    // A record that belongs to the step, and a bus that finds every device ready: where the turn of the definition ends with a step that
+    // finishes, the call does.
+    ensures completes { Fits (step_of (state_of m.old) (I.hits icpt.now)) (kept_of rec.old) → Steady (B.sight bus.old) (B.sight bus.new) → Completes (steps_of (I.hits icpt.now)) batch (state_of m.old) report.new }
+    ensures completes_over { (t : Tape) → (B.sight bus.old).tape ≡ Some t → Fits (step_of (state_of m.old) (I.hits icpt.now)) (kept_of rec.old) → CompletesOver (steps_of (I.hits icpt.now)) batch (state_of m.old) (kept_of rec.old) t report.new }
 {
-    one_call(m, icpt, bus, rec, report)
+    turn(m, icpt, bus, rec, batch, report)
 }
 
-/// Runs one step as [`emulate_into`] does, and makes its report anew.
+/// Runs one turn as [`emulate_into`] does, and makes its report anew.
 #[inline(always)]
 pub fn emulate<B: Bus, I: Intercepts>(
     m: &mut Machine,
@@ -253,10 +342,10 @@ pub fn emulate<B: Bus, I: Intercepts>(
     rec: &mut Record,
     batch: u32,
 ) -> Report
-    requires batch { batch ≡ 1 }
+    requires batch { 1 ≤ batch }
     requires room { HasRoom (B.sight bus.old) (256 - length (kept_of rec.old).answers) }
-    ensures tells { Tells (divergence (step_of (state_of m.old) (I.hits icpt.now)) (kept_of rec.old)) (step_of (state_of m.old) (I.hits icpt.now)) (state_of m.old) (kept_of rec.old) result (state_of m.new) (kept_of rec.new) }
-    ensures told { (t : Tape) → (B.sight bus.old).tape ≡ Some t → FollowsTape (step_of (state_of m.old) (I.hits icpt.now)) (state_of m.old) (kept_of rec.old) t result (state_of m.new) (kept_of rec.new) (B.sight bus.new).tape }
+    ensures tells { Tells (divergence (step_of (state_of m.old) (I.hits icpt.now)) (kept_of rec.old)) (steps_of (I.hits icpt.now)) batch (state_of m.old) (kept_of rec.old) result (state_of m.new) (kept_of rec.new) }
+    ensures told { (t : Tape) → (B.sight bus.old).tape ≡ Some t → FollowsTape (steps_of (I.hits icpt.now)) batch (state_of m.old) (kept_of rec.old) t result (state_of m.new) (kept_of rec.new) (B.sight bus.new).tape }
     ensures untold { (B.sight bus.old).tape ≡ None → (B.sight bus.new).tape ≡ None }
     ensures room { (B.sight bus.old).room ≤ (B.sight bus.new).room + (length result.accesses.items - length (kept_of rec.old).answers) }
     ensures spare { (k : Key) → (B.sight bus.new).spare k ≡ (B.sight bus.old).spare k }
@@ -264,17 +353,18 @@ pub fn emulate<B: Bus, I: Intercepts>(
     ensures faults { (B.sight bus.old).faults ≤ (B.sight bus.new).faults }
     ensures counted { Counted result.outcome (B.sight bus.old) (B.sight bus.new) }
     ensures well_made { All IsWellMade result.accesses.items }
-    ensures stays { is_done result.outcome ≡ false → state_of m.new ≡ state_of m.old }
+    ensures few { result.elements ≤ batch }
+    ensures alone { IsSome (kept_of rec.old).asked → result.elements ≡ (if is_done result.outcome then 1 else 0) }
+    ensures stays { state_of m.new ≡ after_steps (steps_of (I.hits icpt.now)) result.elements (state_of m.old) (answers_alone (answers result.accesses.items)) }
     ensures valid { Valid (state_of m.new).cpu }
-    // Each of the accesses is the one that the step stands at where it has the answers before it alone.
-    ensures asks { is_diverged result.outcome ≡ false → StandsEach (step_of (state_of m.old) (I.hits icpt.now)) result.row [] result.accesses.items }
-    // It stands at the access of Pending and BusFault, with the answers of those before.
-    ensures stands { Stands result.outcome (step_of (state_of m.old) (I.hits icpt.now)) result.row result.accesses.items }
-    // Diverged comes only where the record belongs to another step.
+    ensures led { Led (steps_of (I.hits icpt.now)) batch (state_of m.old) (kept_of rec.old) result (state_of m.new) (kept_of rec.new) }
+    ensures asks { is_diverged result.outcome ≡ false → StandsEach (step_of (before_last (steps_of (I.hits icpt.now)) (state_of m.old) result) (I.hits icpt.now)) result.row [] result.accesses.items }
+    ensures stands { Stands result.outcome (step_of (before_last (steps_of (I.hits icpt.now)) (state_of m.old) result) (I.hits icpt.now)) result.row result.accesses.items }
     ensures fitting { Fits (step_of (state_of m.old) (I.hits icpt.now)) (kept_of rec.old) → is_diverged result.outcome ≡ false }
-    // A bus that tells its script gave, behind the kept answers, what the script gives.
     ensures plays { (t : Tape) → (B.sight bus.old).tape ≡ Some t → is_diverged result.outcome ≡ false → Played (kept_of rec.old) t result (B.sight bus.new).tape }
     ensures fits { is_diverged result.outcome ≡ false → Fits (step_of (state_of m.new) (I.hits icpt.now)) (kept_of rec.new) }
+    ensures completes { Fits (step_of (state_of m.old) (I.hits icpt.now)) (kept_of rec.old) → Steady (B.sight bus.old) (B.sight bus.new) → Completes (steps_of (I.hits icpt.now)) batch (state_of m.old) result }
+    ensures completes_over { (t : Tape) → (B.sight bus.old).tape ≡ Some t → Fits (step_of (state_of m.old) (I.hits icpt.now)) (kept_of rec.old) → CompletesOver (steps_of (I.hits icpt.now)) batch (state_of m.old) (kept_of rec.old) t result }
 {
     let mut report = Report::new();
     emulate_into(m, icpt, bus, rec, batch, &mut report);

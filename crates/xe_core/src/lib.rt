@@ -1,4 +1,4 @@
-//! One step of a machine: fetch, decode, the instructions that are built, and what a call reports.
+//! Turns of a machine: fetch, decode, the rows of all crates, and what a call reports.
 #![tactic(auto)]
 
 pub mod call;
