@@ -19,7 +19,6 @@ use Rattle.xe_seg.proofs.DescriptorLaws.{attributes_of}
 use Rattle.xe_ctx.specs.Privilege.{is_real_mode}
 use Rattle.xe_ctx.proofs.Tame.{Tame}
 use Rattle.xe_far.specs.Change.{OnlyFlow}
-use Rattle.xe_far.specs.Flags.{where_, returned_flags}
 
 -- ---- the rules of a valid state, one after another
 
@@ -210,29 +209,6 @@ target_by false f x h = cc
 pub target_tells : (cpu : Cpu) (cs : Seg) (offset : ℕ) (x : Unit {0}) → target cpu cs offset ≡ Ok x → is_target cpu cs offset ≡ true
 unfolding target
 target_tells cpu cs offset x h = target_by _ _ x h
-
--- ---- the flags
-
-by_mask : (m f v : ℕ) → bit_and m (2 ^ 64 - 1 - 0x247FD5) ≡ 0 → bit_and (2 ^ 64 - 1 - m) (2 ^ 64 - 1 - 0x247FD5) ≡ 2 ^ 64 - 1 - 0x247FD5 → fixed_flags (bit_or (bit_and f (2 ^ 64 - 1 - m)) (bit_and v m)) ≡ fixed_flags f
-by_mask m f v p q =
-    and_or_apart (2 ^ 64 - 1 - 0x247FD5) (bit_and f (2 ^ 64 - 1 - m)) (bit_and v m) (and_assoc (2 ^ 64 - 1 - 0x247FD5) v m ∙ (ap (bit_and v) p ∙ and_zero_r v))
-    ∙ (and_assoc (2 ^ 64 - 1 - 0x247FD5) f (2 ^ 64 - 1 - m) ∙ ap (bit_and f) q)
-
-abbrev mask_of : Bool → Bool → Bool → ℕ
-mask_of a b c = 0x4DD5 + where_ a 0x200 + where_ b 0x3000 + where_ c 0x240000
-
-by_tests : (a b c : Bool) (f v : ℕ) → fixed_flags (bit_or (bit_and f (2 ^ 64 - 1 - mask_of a b c)) (bit_and v (mask_of a b c))) ≡ fixed_flags f
-by_tests true true true f v = by_mask (mask_of true true true) f v refl refl
-by_tests true true false f v = by_mask (mask_of true true false) f v refl refl
-by_tests true false true f v = by_mask (mask_of true false true) f v refl refl
-by_tests true false false f v = by_mask (mask_of true false false) f v refl refl
-by_tests false true true f v = by_mask (mask_of false true true) f v refl refl
-by_tests false true false f v = by_mask (mask_of false true false) f v refl refl
-by_tests false false true f v = by_mask (mask_of false false true) f v refl refl
-by_tests false false false f v = by_mask (mask_of false false false) f v refl refl
-
-pub fixed_returned : (cpu : Cpu) (n value : ℕ) → fixed_flags (returned_flags cpu n value) ≡ fixed_flags cpu.rflags
-fixed_returned cpu n value = by_tests _ _ _ cpu.rflags value
 
 -- ---- arrival
 

@@ -45,7 +45,8 @@ use Rattle.xe_far.specs.Return.{real_return, return_on_stack, protected_return, 
 use Rattle.xe_far.specs.Rows.{row_at, or_undefined, row_of, is_row}
 use Rattle.xe_far.specs.Transfer.{goes_to, ends_at, push_return, real_jump, protected_jump, jump, jmpf_row, real_call, protected_call, call, callf_row}
 use Rattle.xe_far.specs.declared.pointer.FarPointer.{FarPointer}
-use Rattle.xe_far.proofs.Arrival.{Fits, FitsLow, fits_same, fits_low_same, fits_left, fits_loaded, fits_real, below, moved, valid_moved, protection_on, level_fits, code_fits, target_below, target_tells, pointer_fits, fixed_returned, Arrives, arrives, arrives_with}
+use Rattle.xe_flow.proofs.CalmRows.{fixed_popped}
+use Rattle.xe_far.proofs.Arrival.{Fits, FitsLow, fits_same, fits_low_same, fits_left, fits_loaded, fits_real, below, moved, valid_moved, protection_on, level_fits, code_fits, target_below, target_tells, pointer_fits, Arrives, arrives, arrives_with}
 
 -- ---- checks
 
@@ -373,7 +374,7 @@ module _ (insn : Insn) (cpu : Cpu) (of_ : IsOf cpu insn) (valid : Valid cpu) whe
       asked_then (Ends cpu) _ _ (λ u. asked_then (Ends cpu) _ _ (λ v.
       each_then (Ends cpu) (IsPointer insn.opsize) (pop_pointer insn cpu 0) _ (popped insn cpu 0) (λ p q. asked_then (Ends cpu) _ _ (λ flags.
       each_then (Ends cpu) (Arrives cpu) (interrupt_return insn cpu p flags) _ (interrupt_returns insn cpu p of_ valid q flags) (λ after a.
-      ends cpu _ (arrives_with cpu after _ a (fixed_returned cpu insn.opsize flags)))))))
+      ends cpu _ (arrives_with cpu after _ a (fixed_popped cpu insn.opsize flags)))))))
 
   ends_by_row : (r : Row) → EachGives (Ends cpu) (or_undefined (row_at r) insn cpu)
   ends_by_row row.Callf = ends_callf

@@ -1,7 +1,6 @@
 pub mod Pointer
 pub mod CodeSegment
 pub mod Transfer
-pub mod Flags
 pub mod Outer
 pub mod Return
 pub mod Change

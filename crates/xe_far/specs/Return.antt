@@ -12,9 +12,9 @@ use Rattle.xe_ctx.specs.Stack.{released, stack_load}
 use Rattle.xe_ctx.specs.Tree.{handoff}
 use Rattle.xe_ctx.specs.declared.stop.Finish.{Finish}
 use Rattle.xe_ctx.specs.declared.stop.Handoff.TheVariants.{TaskReturn, Vm86}
+use Rattle.xe_flow.specs.Flags.{flags_by_popf}
 use Rattle.xe_desc.specs.DescriptorTable.{mark_accessed}
 use Rattle.xe_far.specs.CodeSegment.{or_raise, code_to_return_to}
-use Rattle.xe_far.specs.Flags.{returned_flags}
 use Rattle.xe_far.specs.Outer.{return_with_stack}
 use Rattle.xe_far.specs.Pointer.{pop_pointer}
 use Rattle.xe_far.specs.Transfer.{goes_to, ends_at}
@@ -88,4 +88,4 @@ iret_row insn cpu = do
   p ← pop_pointer insn cpu 0
   flags ← stack_load cpu (2 * insn.opsize) insn.opsize
   after ← interrupt_return insn cpu p flags
-  give (ends_at (record after { rflags = returned_flags cpu insn.opsize flags }))
+  give (ends_at (record after { rflags = flags_by_popf cpu insn.opsize flags }))

@@ -4,7 +4,6 @@
 #![tactic(auto, using(xe_ctx::proofs::Trees::row_rules))]
 
 mod code_segment;
-mod flags;
 pub mod laws;
 mod outer;
 mod pointer;

@@ -5,7 +5,6 @@ ghost use Rattle.xe_ctx.specs.Contract.{HasLeft, IsReady, RunsWithin, DraftsWith
 ghost use Rattle.xe_far.specs.Return.{real_return, return_on_stack, protected_return, extra_bytes, far_return, retf_row, is_nested_task, or_task_return, is_to_vm86, interrupt_return, iret_row};
 
 use crate::code_segment::{code_to_return_to, or_raise};
-use crate::flags::returned_flags;
 use crate::outer::return_with_stack;
 use crate::pointer::{FarPointer, pop_pointer};
 use crate::transfer::{done, go_to, real_segment};
@@ -14,6 +13,7 @@ use xe_ctx::privilege::is_real;
 use xe_ctx::stack::{release, stack_load};
 use xe_ctx::{Bus, Ctx, End, Handoff, Stop};
 use xe_desc::descriptor_table::mark_accessed;
+use xe_flow::flags::flags_by_popf;
 use xe_icpt::{Intercepts, Point};
 use xe_opmap::Insn;
 use xe_seg::accesses::protection_fault;
@@ -201,7 +201,7 @@ pub fn iret<B: Bus, I: Intercepts>(
     or_task_return(ctx)?;
     let to = pop_pointer(insn, ctx, 0)?;
     let flags = stack_load(ctx, cpu, 2 * insn.opsize as u64, insn.opsize)?;
-    let new_flags = returned_flags(cpu, insn.opsize, flags);
+    let new_flags = flags_by_popf(cpu, insn.opsize, flags);
     interrupt_return(insn, ctx, cpu, to, flags)?;
     cpu.rflags = new_flags;
     Ok(done())

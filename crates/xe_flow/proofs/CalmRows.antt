@@ -77,7 +77,7 @@ popped_apart a b c value =
     and_assoc (2 ^ 64 - 1 - 0x247FD5) value (mask_at a b c)
     ∙ (ap (λ m. bit_and value m) (mask_apart a b c) ∙ and_zero_r value)
 
-fixed_popped : (cpu : Cpu) (n value : ℕ) → fixed_flags (flags_by_popf cpu n value) ≡ fixed_flags cpu.rflags
+pub fixed_popped : (cpu : Cpu) (n value : ℕ) → fixed_flags (flags_by_popf cpu n value) ≡ fixed_flags cpu.rflags
 fixed_popped cpu n value =
     and_or_apart (2 ^ 64 - 1 - 0x247FD5) (bit_and cpu.rflags (2 ^ 64 - 1 - popf_mask cpu n)) (bit_and value (popf_mask cpu n)) (popped_apart (is_io_level cpu) (cpu.cpl == 0) (nat_lt 2 n) value)
     ∙ (and_assoc (2 ^ 64 - 1 - 0x247FD5) cpu.rflags (2 ^ 64 - 1 - popf_mask cpu n)

@@ -4,7 +4,7 @@
 #![tactic(auto, using(xe_ctx::proofs::Trees::row_rules))]
 
 mod branch;
-mod flags;
+pub mod flags;
 mod frame;
 mod interrupt;
 pub mod laws;
