@@ -107,17 +107,7 @@ pub(crate) fn note_wait(waits: &mut ArrayVec<u64, 256>, at: usize)
 pub(crate) fn is_done(outcome: &Outcome) -> bool
     ensures { result ≡ is_done outcome.now }
 {
-    match outcome {
-        Outcome::Done { .. } => true,
-        Outcome::Pending(_)
-        | Outcome::Fault(_)
-        | Outcome::Intercept(_)
-        | Outcome::Event { .. }
-        | Outcome::Handoff(_)
-        | Outcome::Unhandled
-        | Outcome::BusFault(_)
-        | Outcome::Diverged { .. } => false,
-    }
+    matches!(outcome, Outcome::Done { .. })
 }
 
 /// Writes the line of the steps that finished before one that didn't, where there are such.
