@@ -1,0 +1,4 @@
+mod HeldValues
+mod LooseValues
+mod Reset
+mod Sizes

@@ -1,0 +1,7 @@
+pub mod Emulated
+pub mod Owned
+pub mod Posted
+pub mod Ran
+pub mod Registers
+pub mod Regions
+pub mod Told
