@@ -1,6 +1,6 @@
 //! The call that makes a machine.
 
-ghost use Rattle.std.specs.Prelude.{◌≡◌, ◌<◌, ◌≤◌, ◌++◌, [], ◌∷◌, length, map, Some, None, true, Either, IfOk, IfErr, OnErr};
+ghost use Rattle.std.specs.Prelude.{◌≡◌, ◌<◌, ◌≤◌, ◌++◌, [], ◌∷◌, length, map, Some, None, true, false, IfOk, IfErr, OnErr};
 ghost use Rattle.xe_mem.specs.Layout.{IsLayout, zeroed};
 ghost use Rattle.x86emu_c.specs.Emulated.{machine_in, fresh, seen};
 ghost use Rattle.x86emu_c.specs.Regions.{region_of, regions_of};
@@ -56,7 +56,7 @@ pub extern "C" fn x86emu_create(alloc: Global, m: &mut Handle, regions: &[X86emu
     ensures twice { m.old.live ≡ true → result ≡ 2 }
     ensures made { result ≡ 0 → machine_in m.new ≡ Some (fresh (zeroed (regions_of regions.now))) }
     ensures layout { result ≡ 0 → IsLayout (regions_of regions.now) }
-    ensures memory { m.old.live ≡ false → IsLayout (regions_of regions.now) → Either (result ≡ 0) (result ≡ 3) }
+    ensures memory { m.old.live ≡ false → IsLayout (regions_of regions.now) → 0 < result → result ≡ 3 }
     ensures stays { 0 < result → machine_in m.new ≡ machine_in m.old }
 {
     if m.is_live() {

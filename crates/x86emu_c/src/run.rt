@@ -74,20 +74,19 @@ pub extern "C" fn x86emu_run(
         *report = X86emuReport::none();
         return NO_MACHINE;
     };
-    let status = if batch == 0 {
+    if batch == 0 {
         *report = X86emuReport::none();
-        BAD_BATCH
-    } else {
-        b.run(batch);
-        *report = X86emuReport::of(&b.report);
-        OK
-    };
+        *m = Handle::of(b);
+        return BAD_BATCH;
+    }
+    b.run(batch);
+    *report = X86emuReport::of(&b.report);
     *m = Handle::of(b);
-    status
+    OK
 }
 
 #[unsafe(no_mangle)]
-pub extern "C" fn x86emu_made(
+pub extern "C" fn x86emu_made_at(
     alloc: Global,
     m: &mut Handle,
     index: u32,
