@@ -16,14 +16,14 @@ use Rattle.xe_ctx.specs.Bus.{BusView}
 use Rattle.xe_core.specs.Tried.{is_plain, Tried, ReportsOnce, judged, told_by, left_by, state_by, why_by}
 use Rattle.xe_ctx.specs.Ending.{Ending, Raises, Exits, Interrupts, HandsOver, stop_of}
 use Rattle.xe_ctx.specs.Finishes.{IsSound}
-use Rattle.xe_ctx.specs.Is.{Sight, Is, Stood}
+use Rattle.xe_ctx.specs.Is.{Sight, Is, Moves, Stood}
 use Rattle.xe_ctx.specs.Kept.{Kept, IsKept, Agrees, expected, nothing}
 use Rattle.xe_ctx.specs.Operand.{IsOf}
 use Rattle.xe_ctx.specs.Part.{View, begins}
 use Rattle.xe_ctx.specs.Run.{run}
 use Rattle.xe_ctx.specs.Runs.{finished}
 use Rattle.xe_ctx.specs.State.{State}
-use Rattle.xe_core.specs.Step.{step, stepped, executed, concluded, early, outcome_of, undefined_opcode, retired, tf, is_done}
+use Rattle.xe_core.specs.Step.{Stepped, step, stepped, executed, concluded, early, outcome_of, undefined_opcode, retired, tf, is_done}
 use Rattle.xe_ctx.specs.Supply.{Supply}
 use Rattle.xe_ctx.specs.View.{accepts, opens}
 use Rattle.xe_ctx.specs.declared.report.Outcome.{Outcome}
@@ -60,8 +60,8 @@ module _ (s : State) (hits : Point → Option Exit) (supply : Supply) where
   unfolding step fetched
   step_early o h = stepped-early _ _ o h
 
-  step_on : (insn : Insn) → fetched s ≡ Ok insn → step_of s hits supply ≡ concluded s insn.row (run (table insn s.cpu) (begins s hits) supply)
-  unfolding step fetched accepted
+  step_on : (insn : Insn) → fetched s ≡ Ok insn → step_of s hits supply ≡ concluded s insn.row (run (table insn s.cpu) (accepted insn.len (begins s hits)) supply)
+  unfolding step fetched
   step_on insn h = stepped-on _ _ insn h
 
 -- ---- ends by their outcomes
@@ -100,9 +100,40 @@ after-undone o s cpu ram e = rw e refl
 
 -- ---- a step that was tried, by what the code did
 
-accepts-same : (len : ℕ) (v : Sight) → accepts len v ≡ v
-unfolding accepted
-accepts-same len v = refl
+-- the marks in page tables are no accesses: what is known from behind them is known from before
+module _ (v : View) (ram : List Area) (K : Kept) (b : BusView) (new : Sight) where
+  abbrev before : Sight
+  before = record { step = v; kept = K; bus = b }
+
+  abbrev behind : Sight
+  behind = record { step = record v { work = ram }; kept = K; bus = b }
+
+  stood-before : (why : Option Stop) → Stood why behind new → Stood why before new
+  stood-before None h = h
+  stood-before (Some (stops.Pending a)) h = h
+  stood-before (Some (stops.BusFault a)) h = h
+  stood-before (Some (stops.Diverged d)) h = h
+  stood-before (Some (stops.Fault f)) h = h
+  stood-before (Some (stops.Intercept x)) h = h
+  stood-before (Some (stops.Event x)) h = h
+  stood-before (Some (stops.Handoff x)) h = h
+
+  moves-before : (extra : List Made) (why : Option Stop) → Moves behind extra why new → Moves before extra why new
+  moves-before extra why m = record {
+    made = m.made;
+    well_made = m.well_made;
+    kept_ = m.kept_;
+    told = λ t e. (let p = m.told t e in record { tape = p.tape; is = p.is; mid = p.mid; supplies = p.supplies; left = p.left; log = p.log });
+    untold = m.untold;
+    room_ = m.room_;
+    unready_ = m.unready_;
+    faults_ = m.faults_;
+    spare_ = m.spare_;
+    stood = stood-before why m.stood;
+  }
+
+  tried-before : (stepping : Supply → Stepped) (row : Option Row) (outcome : Outcome) (after : State) → Tried stepping behind row outcome after new → Tried stepping before row outcome after new
+  tried-before stepping row outcome after t = record { moves = moves-before new.step.made (why_by outcome) t.moves; comes = t.comes; stands = t.stands }
 
 module _ (s : State) (hits : Point → Option Exit) (old : Sight) (start : old.step ≡ begins s hits) where
   none-made : old.step.made ≡ []
@@ -115,25 +146,31 @@ module _ (s : State) (hits : Point → Option Exit) (old : Sight) (start : old.s
       rw (after-undone o s cpu ram e.undone, same) (tried_early (step_of s hits) old.step old.kept old.bus none-made s None o e.plain (λ supply. step_early s hits supply o h))
 
   module _ (insn : Insn) (h : fetched s ≡ Ok insn) where
-    steps : (supply : Supply) → step_of s hits supply ≡ concluded s insn.row (run (table insn s.cpu) old.step supply)
-    steps supply = step_on s hits supply insn h ∙ ap (λ v. concluded s insn.row (run (table insn s.cpu) v supply)) (sym start)
+    steps : (supply : Supply) → step_of s hits supply ≡ concluded s insn.row (run (table insn s.cpu) (accepted insn.len old.step) supply)
+    steps supply = step_on s hits supply insn h ∙ ap (λ v. concluded s insn.row (run (table insn s.cpu) (accepted insn.len v) supply)) (sym start)
 
-    finishes : (f : Finish) (new : Sight) → Is (table insn s.cpu) old (Ok f) new → Tried (step_of s hits) old (Some insn.row) (Done f.more (retired s.cpu f.retire)) (record { cpu = f.cpu; ram = new.step.work }) new
-    finishes f new d = tried_finish (step_of s hits) old.step old.kept old.bus none-made s insn.row (table insn s.cpu) steps new f d
+    finishes : (f : Finish) (new : Sight) → Is (table insn s.cpu) (accepts insn.len old) (Ok f) new → Tried (step_of s hits) old (Some insn.row) (Done f.more (retired s.cpu f.retire)) (record { cpu = f.cpu; ram = new.step.work }) new
+    unfolding accepted
+    finishes f new d =
+        tried-before old.step (accepted insn.len old.step).work old.kept old.bus new (step_of s hits) (Some insn.row) _ _
+            (tried_finish (step_of s hits) (accepted insn.len old.step) old.kept old.bus none-made s insn.row (table insn s.cpu) steps new f d)
 
-    stops-so : (e : Stop) (new : Sight) → Is (table insn s.cpu) old (Err e) new → Tried (step_of s hits) old (Some insn.row) (outcome_of e) s new
-    stops-so e new d = tried_stop (step_of s hits) old.step old.kept old.bus none-made s insn.row (table insn s.cpu) steps new e d
+    stops-so : (e : Stop) (new : Sight) → Is (table insn s.cpu) (accepts insn.len old) (Err e) new → Tried (step_of s hits) old (Some insn.row) (outcome_of e) s new
+    unfolding accepted
+    stops-so e new d =
+        tried-before old.step (accepted insn.len old.step).work old.kept old.bus new (step_of s hits) (Some insn.row) _ _
+            (tried_stop (step_of s hits) (accepted insn.len old.step) old.kept old.bus none-made s insn.row (table insn s.cpu) steps new e d)
 
 -- what a call knows of an instruction that it has begun: the sights at its start and where it was accepted, and the registers
 module _ (s : State) (hits : Point → Option Exit) (old taken begun new : Sight) (insn : Insn) (cpu : Cpu) (start : old.step ≡ begins s hits) (h : Ok insn ≡ fetched s) (of_ : IsOf s.cpu insn) (step : taken ≡ old) (accept : begun ≡ accepts insn.len taken) (registers : cpu ≡ s.cpu) (out : Result End Stop) (draft : Cpu) (d : Is (table insn cpu) begun (finished out draft) new) where
-  begun-same : begun ≡ old
-  begun-same = accept ∙ accepts-same insn.len taken ∙ step
+  begun-is : begun ≡ accepts insn.len old
+  begun-is = accept ∙ ap (accepts insn.len) step
 
-  did : (res : Result End Stop) → out ≡ res → Is (table insn s.cpu) old (finished res draft) new
+  did : (res : Result End Stop) → out ≡ res → Is (table insn s.cpu) (accepts insn.len old) (finished res draft) new
   did res is =
       let one : Is (table insn s.cpu) begun (finished out draft) new = subst (λ (c : Cpu). Is (table insn c) begun (finished out draft) new) registers d in
-      let two : Is (table insn s.cpu) old (finished out draft) new = subst (λ (x : Sight). Is (table insn s.cpu) x (finished out draft) new) begun-same one in
-      subst (λ (r : Result End Stop). Is (table insn s.cpu) old (finished r draft) new) is two
+      let two : Is (table insn s.cpu) (accepts insn.len old) (finished out draft) new = subst (λ (x : Sight). Is (table insn s.cpu) x (finished out draft) new) begun-is one in
+      subst (λ (r : Result End Stop). Is (table insn s.cpu) (accepts insn.len old) (finished r draft) new) is two
 
   pub came_finish : (end : End) (b : Bool) (n : ℕ) → out ≡ Ok end → b ≡ tf s.cpu → n ≡ (if b then end.retire + 8 else end.retire) → Tried (step_of s hits) old (Some insn.row) (Done end.more n) (after_by (Done end.more n) s draft new.step.work) new
   came_finish end b n is trap e =
@@ -148,7 +185,7 @@ module _ (s : State) (hits : Point → Option Exit) (old taken begun new : Sight
 
   -- an instruction finishes well
   pub came_sound : (end : End) → out ≡ Ok end → Valid s.cpu → IsSound (record { cpu = draft; more = end.more; retire = end.retire })
-  came_sound end is v = gives_of IsSound (table insn s.cpu) (record { cpu = draft; more = end.more; retire = end.retire }) old new (sound_table insn s.cpu of_ v) (did (Ok end) is)
+  came_sound end is v = gives_of IsSound (table insn s.cpu) (record { cpu = draft; more = end.more; retire = end.retire }) (accepts insn.len old) new (sound_table insn s.cpu of_ v) (did (Ok end) is)
 
 -- ---- the judgement
 

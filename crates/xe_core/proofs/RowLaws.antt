@@ -168,7 +168,13 @@ one_owner row.Cmpxchg8b = refl
 one_owner row.Bswap = refl
 
 none-of : (a b c d e f : Bool) → how_many (a ∷ b ∷ c ∷ d ∷ e ∷ f ∷ []) ≡ 1 → a ≡ false → b ≡ false → c ≡ false → d ≡ false → e ≡ false → f ≡ false → ⊥
-none-of a b c d e f h t u v w x y = let z : 0 ≡ 1 = (let k = h in rw (t, u, v, w, x, y) at k) in omega arith
+none-of true b c d e f h t u v w x y = cc
+none-of false true c d e f h t u v w x y = cc
+none-of false false true d e f h t u v w x y = cc
+none-of false false false true e f h t u v w x y = cc
+none-of false false false false true f h t u v w x y = cc
+none-of false false false false false true h t u v w x y = cc
+none-of false false false false false false h t u v w x y = omega arith
 
 -- so one that is of none isn't there
 pub some_owner : (r : Row) → arith.is_row r ≡ false → flow.is_row r ≡ false → string.is_row r ≡ false → desc.is_row r ≡ false → far.is_row r ≡ false → sys.is_row r ≡ false → ⊥

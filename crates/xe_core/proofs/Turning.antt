@@ -375,8 +375,11 @@ module _ (steps : Steps) (first : State) (K : Kept) (begun : BusView) where
 
       last-so : (o : Option Divergence) → TellsOnce o (steps s) s K d.report after kept → Tells o steps 1 s K d.report after kept
       last-so (Some x) h = h
-      last-so None (rest, front, h) = (rest, front,
-          ap (λ t. called (lacking_last d.report.outcome t)) (one-step (answers_alone (answers d.report.accesses.items))) ∙ ap called (lacking_taken s d.report.outcome (steps s (answers_alone (answers d.report.accesses.items)))) ∙ h)
+      last-so None (rest, front, h) = (
+        rest,
+        front,
+        ap (λ t. called (lacking_last d.report.outcome t)) (one-step (answers_alone (answers d.report.accesses.items))) ∙ ap called (lacking_taken s d.report.outcome (steps s (answers_alone (answers d.report.accesses.items)))) ∙ h,
+      )
 
       last-there : Tells (divergence (steps (before_last steps first (behind_report f d.report))) K) steps 1 (before_last steps first (behind_report f d.report)) K (alone (behind_report f d.report)) after kept
       last-there =

@@ -10,11 +10,12 @@ use Rattle.xe_mem.specs.declared.region.Region.{Region}
 use Rattle.xe_ctx.specs.Kept.{Kept, nothing}
 use Rattle.xe_ctx.specs.State.{State}
 use Rattle.xe_ctx.specs.Tape.{Key}
+use Rattle.xe_icpt.specs.declared.svm_name.SvmName.{SvmName}
 use Rattle.xe_scene.specs.Queues.{key_of_queue}
 use Rattle.xe_scene.specs.Rooms.{items_for, fed_by}
 use Rattle.xe_scene.proofs.RoomLaws.{items_more}
 use Rattle.xe_scene.proofs.KeyLaws.{same_key_itself}
-use Rattle.xe_scene.specs.declared.command.Command.TheVariants.{Dev, Reg, Seg as SetSegment, Table as SetTable, Dump}
+use Rattle.xe_scene.specs.declared.command.Command.TheVariants.{Dev, Reg, Seg as SetSegment, Table as SetTable, Icpt, Unicpt, Ioport, Icptmsr, Batch, Dump}
 use Rattle.xe_scene.specs.declared.command.RegName.{RegName}
 use Rattle.xe_scene.specs.declared.command.SegReg.{SegReg}
 use Rattle.xe_scene.specs.declared.command.DtName.{DtName}
@@ -27,7 +28,7 @@ use Rattle.xe_base.specs.Reset.{reset_state}
 use Rattle.xe_ctx.specs.Machine.{first_hole}
 use Rattle.xe_scene.specs.declared.command.Command.{Command}
 use Rattle.xe_run.specs.Text.{text, line_of}
-use Rattle.xe_run.specs.Drive.{World, Did, obeyed, drive_from, run_command, call_command, call_event, call_events, end_event, single_call, after_call, abandoned, show_command, dump_command, memory_shown, shown, installed, poke_command, poked, turns, redrafted, start, drive}
+use Rattle.xe_run.specs.Drive.{World, Did, obeyed, drive_from, run_command, call_command, call_event, call_events, steps_event, end_event, single_call, after_call, abandoned, show_command, dump_command, memory_shown, shown, installed, poke_command, poked, turns, redrafted, start, drive}
 use Rattle.xe_run.specs.declared.event.Event.TheVariants as events
 use Rattle.xe_core.specs.Call as calls
 use Rattle.xe_ctx.specs.Tape.{Tape}
@@ -132,7 +133,7 @@ run-after n w v e i = ap (λ (d : Did). d.after) (run-valid n w e) ∙ ap (λ (u
 
 -- a call of a valid draft is that of the machine with the draft installed
 pub call-goes-shows : (w v : World) (r : Report) (s : State) (left : Kept) (o : Option Tape) → broken w.draft ≡ None → v ≡ installed w → single_call v ≡ calls.reported r s left o
-    → (call_command w).events ≡ map call_event (drop (length w.kept.answers) r.accesses.items) ++ end_event w.draft s.cpu r.elements r.finished r.row r.outcome ∷ []
+    → (call_command w).events ≡ steps_event w.draft s.cpu r.elements r.finished r.outcome ++ (map call_event (drop (length w.kept.answers) r.accesses.items) ++ end_event w.draft s.cpu r.elements r.finished r.row r.outcome ∷ [])
 call-goes-shows w v r s left o e i told =
     ap (λ (d : Did). d.events) (call-valid w e)
     ∙ ap (λ (u : World). call_events w.draft w.kept (single_call u)) (sym i)
@@ -178,6 +179,27 @@ table-drafts w c name base limit e = rw e text-nil
 pub dev-silent : (w : World) (c : Command) (space : Space) (dir : Dir) (address : ℕ) (items : ArrayVec Item) → c ≡ Dev space dir address items → text (obeyed w c).events ≡ []
 unfolding obeyed
 dev-silent w c space dir address items e = rw e text-nil
+
+-- nor does one that changes what is intercepted, or how many steps a turn has
+pub icpt-silent : (w : World) (c : Command) (name : SvmName) → c ≡ Icpt name → text (obeyed w c).events ≡ []
+unfolding obeyed
+icpt-silent w c name e = rw e text-nil
+
+pub unicpt-silent : (w : World) (c : Command) (name : SvmName) → c ≡ Unicpt name → text (obeyed w c).events ≡ []
+unfolding obeyed
+unicpt-silent w c name e = rw e text-nil
+
+pub ioport-silent : (w : World) (c : Command) (low high : ℕ) → c ≡ Ioport low high → text (obeyed w c).events ≡ []
+unfolding obeyed
+ioport-silent w c low high e = rw e text-nil
+
+pub icptmsr-silent : (w : World) (c : Command) (direction : Dir) (number : ℕ) → c ≡ Icptmsr direction number → text (obeyed w c).events ≡ []
+unfolding obeyed
+icptmsr-silent w c direction number e = rw e text-nil
+
+pub batch-silent : (w : World) (c : Command) (n : ℕ) → c ≡ Batch n → text (obeyed w c).events ≡ []
+unfolding obeyed
+batch-silent w c n e = rw e text-nil
 
 pub nothing-written : (old : Option (List ℕ)) (bytes : List ℕ) → bytes ≡ [] → old ≡ followed_by old bytes
 nothing-written old bytes e = sym (ap (followed_by old) e ∙ followed_by-nil old)

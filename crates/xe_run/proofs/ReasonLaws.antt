@@ -1,5 +1,5 @@
 -- A text is refused for one of the reasons that are printed.
-use Rattle.std.proofs.Common.{◌≡◌, ℕ, ◌+◌, ◌≤◌, List, [], ◌∷◌, Bool, true, false, Result, Ok, Err, length, refl, sym, ap, lit≤, if◌then◌else◌}
+use Rattle.std.proofs.Common.{◌≡◌, ℕ, ◌+◌, List, [], ◌∷◌, Bool, true, false, Result, Ok, Err, length, refl, ap, lit≤, if◌then◌else◌}
 use Rattle.std.specs.Prelude.{nat_lt, take}
 use Rattle.std.specs.List.{count_by}
 use Rattle.xe_scene.specs.Chain.{◌>>=◌}
@@ -28,7 +28,6 @@ number_of reasons.TooMuchRam = (lit≤ tt, lit≤ tt)
 number_of reasons.LateRam = (lit≤ tt, lit≤ tt)
 number_of reasons.TooMany = (lit≤ tt, lit≤ tt)
 number_of reasons.TooLong = (lit≤ tt, lit≤ tt)
-number_of reasons.NotBuilt = (lit≤ tt, lit≤ tt)
 
 err_same : {A : Type 0} (b bad : Bad) (r : Result A Bad) → r ≡ Err b → r ≡ Err bad → b ≡ bad
 err_same b bad r e f = cc

@@ -1,12 +1,12 @@
 -- An access that is asked for until its device is ready, one reply after another.
-use Rattle.std.proofs.Common.{◌≡◌, ℕ, ◌+◌, List, [], ◌∷◌, Bool, true, if◌then◌else◌, Option, Some, None, drop, refl, sym, ap, ◌∙◌}
+use Rattle.std.proofs.Common.{◌≡◌, List, [], ◌∷◌, Bool, if◌then◌else◌, Some, None, drop, refl, sym, ap, ◌∙◌}
 use Rattle.xe_base.specs.declared.access.Access.{Access}
 use Rattle.xe_base.specs.declared.access.Answer.{Answer}
-use Rattle.xe_ctx.specs.Tape.{Item, Gives, Waits, Fails, Key, Tape, Asked, ask, key_of, same_key, first_reply, logged, popped}
+use Rattle.xe_ctx.specs.Tape.{Item, Gives, Waits, Fails, Key, Tape, ask, key_of, first_reply, logged, popped}
 use Rattle.xe_ctx.specs.declared.bus.Reply.{Reply}
 use Rattle.xe_ctx.specs.declared.bus.Reply.TheVariants.{Ready, NotYet, Failed}
 use Rattle.xe_scene.proofs.KeyLaws.{same_key_itself}
-use Rattle.xe_run.specs.Settled.{Settled, settle, settled, settled_by, once_more, answer_in}
+use Rattle.xe_run.specs.Settled.{settle, settled, settled_by, once_more, answer_in}
 
 logged_queues : (t : Tape) (a : Access) (reply : Reply) → (logged t a reply).queues ≡ t.queues
 logged_queues t a (Ready r) = refl

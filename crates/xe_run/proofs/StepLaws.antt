@@ -1,5 +1,5 @@
 -- A step over a script: one round after another, and the calls that go on with it.
-use Rattle.std.proofs.Common.{◌≡◌, ℕ, zero, suc, ◌+◌, ◌-◌, ◌<◌, ◌≤◌, min, List, [], ◌∷◌, ◌++◌, length, get_or, drop, Option, Some, None, refl, sym, ap, ◌∙◌, arith, append_assoc}
+use Rattle.std.proofs.Common.{◌≡◌, ℕ, zero, suc, ◌+◌, ◌<◌, ◌≤◌, List, [], ◌∷◌, ◌++◌, length, Option, Some, None, refl, sym, ap, ◌∙◌, arith, append_assoc}
 use Rattle.std.proofs.lemmas.List.{append-nil}
 use Rattle.xe_base.specs.declared.access.Access.{Access}
 use Rattle.xe_base.specs.declared.access.Answer.{Answer}
@@ -8,11 +8,11 @@ use Rattle.xe_opmap.specs.declared.row.Row.{Row}
 use Rattle.xe_core.specs.Call.{StandsEach, standing}
 use Rattle.xe_ctx.specs.State.{State}
 use Rattle.xe_core.specs.Step.{Stepped, Ends, Wants, Ended, Wanted}
-use Rattle.xe_ctx.specs.Supply.{Supply, Taken, Got, Lacks, Lack, Unanswered, Unready, Failing, Supplies, answers, answers_alone, from_tape, next_answer, replied}
+use Rattle.xe_ctx.specs.Supply.{Supply, Got, Lacks, Unanswered, Unready, Failing, Supplies, answers, answers_alone, from_tape, replied}
 use Rattle.xe_ctx.specs.Tape.{Tape, ask}
 use Rattle.xe_ctx.specs.declared.bus.Reply.{Reply}
 use Rattle.xe_ctx.specs.declared.bus.Reply.TheVariants.{Ready, NotYet, Failed}
-use Rattle.xe_run.specs.Settled.{Settled, settled, once_more}
+use Rattle.xe_run.specs.Settled.{Settled, settled}
 use Rattle.xe_run.specs.Turn.{Answered, Turn, answers_of, answered, counted, ended, broken_off, overlong, when_settled, followed, stepping_on}
 use Rattle.xe_run.specs.Reported.{count_at, with_waits, with_waits_from}
 use Rattle.xe_run.proofs.SettledLaws.{settled-waits, settled-answers, settled-fails}

@@ -1,6 +1,6 @@
--- The events of a scene: its commands one after another, over a machine, the draft of its registers, the script of its devices, and what
--- `call` has kept of a suspended step. Nothing else is kept between the steps. This project's choice.
-use Rattle.std.specs.Prelude.{ℕ, zero, suc, ◌+◌, ◌*◌, ◌/◌, ◌%◌, ◌^◌, ◌==◌, not, slice_set, List, [], ◌∷◌, ◌++◌, length, map, take, drop, Bool, false, if◌then◌else◌, Option, Some, None}
+-- The events of a scene: its commands one after another, over a machine, the draft of its registers, what is intercepted, how many steps a
+-- turn has at most, the script of the devices, and what `call` has kept of a suspended step. Nothing else is kept between the steps. This project's choice.
+use Rattle.std.specs.Prelude.{ℕ, zero, suc, ◌+◌, ◌-◌, ◌*◌, ◌/◌, ◌%◌, ◌^◌, ◌==◌, ◌||◌, min, not, slice_set, List, [], ◌∷◌, ◌++◌, length, map, take, drop, Bool, false, if◌then◌else◌, Option, Some, None}
 use Rattle.std.specs.List.{range_with_len}
 use Rattle.xe_base.specs.Ram.{bytes_of, put_bytes}
 use Rattle.xe_base.specs.Reset.{reset_state}
@@ -11,6 +11,11 @@ use Rattle.xe_base.specs.declared.segment.Seg.{Seg}
 use Rattle.xe_base.specs.declared.segment.Table.{Table}
 use Rattle.xe_mem.specs.Layout.{zeroed}
 use Rattle.xe_mem.specs.declared.region.Region.{Region}
+use Rattle.std.specs.FinSet.{empty, union}
+use Rattle.std.specs.Int.RustNames.{bit_or}
+use Rattle.bitflags.specs.Sets.{without}
+use Rattle.xe_icpt.specs.Ports.{ports_between}
+use Rattle.xe_icpt.specs.SvmSet.{Svm, svm_hit, bits_of, has_msr}
 use Rattle.xe_icpt.specs.declared.exit.Exit.{Exit}
 use Rattle.xe_icpt.specs.declared.point.Point.{Point}
 use Rattle.xe_opmap.specs.declared.row.Row.{Row}
@@ -21,10 +26,12 @@ use Rattle.xe_ctx.specs.Kept.{Kept, nothing}
 use Rattle.xe_core.specs.Call.{Call, one_call}
 use Rattle.xe_ctx.specs.declared.report.Outcome.{Outcome}
 use Rattle.xe_ctx.specs.declared.report.Outcome.TheVariants as ends
-use Rattle.xe_core.specs.Emulate.{step_of}
+use Rattle.xe_core.specs.Emulate.{steps_of}
+use Rattle.xe_core.specs.Step.{is_done}
+use Rattle.xe_scene.specs.Queues.{is_write}
 use Rattle.xe_scene.specs.Script.{with_device}
 use Rattle.xe_scene.specs.declared.command.Command.{Command}
-use Rattle.xe_scene.specs.declared.command.Command.TheVariants.{Reg, Seg as SetSegment, Table as SetTable, Poke, Dev, Run, Call as CallOnce, Show, Dump}
+use Rattle.xe_scene.specs.declared.command.Command.TheVariants.{Reg, Seg as SetSegment, Table as SetTable, Poke, Dev, Icpt, Unicpt, Ioport, Icptmsr, Batch, Run, Call as CallOnce, Show, Dump}
 use Rattle.xe_scene.specs.declared.command.RegName.{RegName}
 use Rattle.xe_scene.specs.declared.command.RegName.TheVariants.{Rax, Rcx, Rdx, Rbx, Rsp, Rbp, Rsi, Rdi, R8, R9, R10, R11, R12, R13, R14, R15, Rip, Rflags, Cr0, Cr2, Cr3, Cr4, Cr8, Efer, Kgs, Cpl}
 use Rattle.xe_scene.specs.declared.command.SegReg.{SegReg}
@@ -35,10 +42,13 @@ use Rattle.xe_run.specs.declared.event.Event.{Event}
 use Rattle.xe_run.specs.declared.event.Event.TheVariants as events
 use Rattle.xe_run.specs.Turn.{Answered, Turn, turn_over}
 
--- what a run goes through: the machine, the draft of its registers, the script, and what a call has kept
+-- what a run goes through: the machine, the draft of its registers, what is intercepted, how many steps a turn has at most, the script,
+-- and what a call has kept
 pub record World : Type 0 where
   pub machine : State
   pub draft : Cpu
+  pub icpt : Svm
+  pub batch : ℕ
   pub tape : Tape
   pub kept : Kept
 
@@ -51,9 +61,9 @@ pub record Did : Type 0 where
 abbrev pub silent : World → Did
 silent w = record { events = []; after = w }
 
--- nothing is intercepted
-abbrev pub no_exits : Point → Option Exit
-no_exits = λ _. None
+-- what is intercepted
+abbrev pub hits_of : World → Point → Option Exit
+hits_of w = svm_hit w.icpt
 
 -- ---- turns and calls
 
@@ -73,11 +83,14 @@ end_event before after count finished row (ends.Handoff handoff) = events.Handof
 end_event before after count finished row ends.Unhandled = events.Unhandled
 end_event before after count finished row (ends.BusFault access) = events.BusFault row access
 end_event before after count finished row (ends.Diverged at kept wanted) = events.Diverged row at kept wanted
-end_event before after count finished row (ends.Unbuilt unbuilt) = events.Unbuilt unbuilt
 
--- the accesses of the last step that were answered, and then how the turn ended
+-- the steps that finished before one that didn't, where there are such
+abbrev pub steps_event : Cpu → Cpu → ℕ → Option Row → Outcome → List Event
+steps_event before after count finished outcome = if is_done outcome || count == 0 then [] else events.Step finished count before after 0 ∷ []
+
+-- the steps that finished before one that didn't, the accesses of the last step that were answered, and then how the turn ended
 abbrev pub turn_events : Cpu → Turn → List Event
-turn_events before t = map io_event t.accesses ++ end_event before t.state.cpu t.steps t.finished t.row t.outcome ∷ []
+turn_events before t = steps_event before t.state.cpu t.steps t.finished t.outcome ++ (map io_event t.accesses ++ end_event before t.state.cpu t.steps t.finished t.row t.outcome ∷ [])
 
 -- the processor halts: bit 2 of what retirement brings with it, which HLT alone sets
 abbrev pub is_halt : ℕ → Bool
@@ -94,11 +107,14 @@ goes_on_after (ends.Handoff handoff) = false
 goes_on_after ends.Unhandled = false
 goes_on_after (ends.BusFault access) = false
 goes_on_after (ends.Diverged at kept wanted) = false
-goes_on_after (ends.Unbuilt unbuilt) = false
 
--- one turn, over the script with an empty log
-unfoldable pub turn : World → Turn
-turn w = turn_over w.machine (step_of w.machine no_exits) (begun w.tape)
+-- a turn of at most n steps, over the script with an empty log
+unfoldable pub turn : ℕ → World → Turn
+turn n w = turn_over (steps_of (hits_of w)) (n - 1) w.machine (begun w.tape)
+
+-- the next turn where so many steps are left
+abbrev pub next_turn : ℕ → World → Turn
+next_turn left w = turn (min w.batch left) w
 
 -- the world after a turn
 abbrev pub turned : World → Turn → World
@@ -110,18 +126,23 @@ and_then w t rest =
     if goes_on_after t.outcome then record { events = turn_events w.machine.cpu t ++ rest.events; after = rest.after }
     else record { events = turn_events w.machine.cpu t; after = turned w t }
 
--- turns until so many steps finished, or the run ends before
-unfoldable pub turns : ℕ → World → Did
-turns zero w = silent w
-turns (suc n) w = and_then w (turn w) (turns n (turned w (turn w)))
+-- turns until the steps that are left have finished, or the run ends before; at most so many turns
+unfoldable pub turns_in : ℕ → ℕ → World → Did
+turns_in zero left w = silent w
+turns_in (suc more) left w = if left == 0 then silent w else and_then w (next_turn left w) (turns_in more (left - (next_turn left w).steps) (turned w (next_turn left w)))
+
+-- A turn behind which the run goes on has finished a step, so there are no more turns than steps.
+abbrev pub turns : ℕ → World → Did
+turns n w = turns_in n n w
 
 -- an access that a call answered; it asks for each access once
 abbrev pub call_event : Made → Event
 call_event made = events.Io made 0
 
--- the accesses that were answered in this call, which stand behind those that were kept before, and then how it ended
+-- the steps that finished before one that didn't, the accesses that were answered in this call, which stand behind those that were kept
+-- before, and then how it ended
 abbrev pub call_events : Cpu → Kept → Call → List Event
-call_events before kept c = map call_event (drop (length kept.answers) c.accesses) ++ end_event before c.state.cpu c.elements c.finished c.row c.outcome ∷ []
+call_events before kept c = steps_event before c.state.cpu c.elements c.finished c.outcome ++ (map call_event (drop (length kept.answers) c.accesses) ++ end_event before c.state.cpu c.elements c.finished c.row c.outcome ∷ [])
 
 abbrev pub script_left : Option Tape → Tape → Tape
 script_left None t = t
@@ -133,7 +154,7 @@ after_call w c = record w { machine = c.state; tape = script_left c.tape w.tape;
 
 -- one call, over the script with an empty log
 unfoldable pub single_call : World → Call
-single_call w = one_call (step_of w.machine no_exits) w.machine w.kept (begun w.tape)
+single_call w = one_call (steps_of (hits_of w)) w.batch w.machine w.kept (begun w.tape)
 
 -- ---- the commands
 
@@ -253,6 +274,14 @@ abbrev pub with_table : DtName → Table → Cpu → Cpu
 with_table Gdtr value cpu = record cpu { gdtr = value }
 with_table Idtr value cpu = record cpu { idtr = value }
 
+-- a model-specific register with a direction joins those that are intercepted. There is room for 64 of them, and a scene has no more.
+abbrev pub with_msr : Svm → ℕ → Bool → Svm
+with_msr set number write = if has_msr set.msrs number write || length set.msrs == 64 then set else record set { msrs = set.msrs ++ record { number = number; write = write } ∷ [] }
+
+-- only what is intercepted changes
+abbrev pub intercepting : World → Svm → Did
+intercepting w set = silent (record w { icpt = set })
+
 -- only the draft changes
 abbrev pub drafted : World → Cpu → Did
 drafted w cpu = silent (record w { draft = cpu })
@@ -263,6 +292,11 @@ obeyed w (SetSegment name selector base limit attr) = drafted w (with_segment na
 obeyed w (SetTable name base limit) = drafted w (with_table name (record { base = base; limit = limit }) w.draft)
 obeyed w (Poke pa bytes) = poke_command pa bytes.items w
 obeyed w (Dev space dir address items) = silent (record w { tape = with_device w.tape space dir address items.items })
+obeyed w (Icpt name) = intercepting w (record w.icpt { names = bit_or w.icpt.names (bits_of name) })
+obeyed w (Unicpt name) = intercepting w (record w.icpt { names = without 64 w.icpt.names (bits_of name) })
+obeyed w (Ioport low high) = intercepting w (record w.icpt { ports = union w.icpt.ports (ports_between low high) })
+obeyed w (Icptmsr direction number) = intercepting w (with_msr w.icpt number (is_write direction))
+obeyed w (Batch n) = silent (record w { batch = n })
 obeyed w (Run steps) = run_command steps w
 obeyed w CallOnce = call_command w
 obeyed w Show = show_command w
@@ -273,9 +307,9 @@ unfoldable pub drive_from : World → List Command → List Event
 drive_from w [] = []
 drive_from w (c ∷ cs) = (obeyed w c).events ++ drive_from (obeyed w c).after cs
 
--- RAM of zeros, the registers of a reset, empty queues, and no suspended step
+-- RAM of zeros, the registers of a reset, nothing intercepted, turns of one step, empty queues, and no suspended step
 abbrev pub start : List Region → World
-start regions = record { machine = record { cpu = reset_state; ram = zeroed regions }; draft = reset_state; tape = empty_tape; kept = nothing }
+start regions = record { machine = record { cpu = reset_state; ram = zeroed regions }; draft = reset_state; icpt = record { names = 0; ports = empty; msrs = [] }; batch = 1; tape = empty_tape; kept = nothing }
 
 -- the events of a scene
 unfoldable pub drive : List Region → List Command → List Event

@@ -11,7 +11,7 @@ use Rattle.xe_run.specs.declared.driver.Driver.{Driver}
 
 -- what the driver goes through
 abbrev pub world : Driver → World
-world d = record { machine = state_of d.machine; draft = d.draft; tape = tape_of d.bus; kept = kept_of d.suspended }
+world d = record { machine = state_of d.machine; draft = d.draft; icpt = d.icpt; batch = d.batch.most; tape = tape_of d.bus; kept = kept_of d.suspended }
 
 -- the queues have room for the items of these commands
 abbrev pub HasRoomFor : Driver → List Command → Type 0

@@ -1,3 +1,4 @@
+pub mod Batch
 pub mod Told
 pub mod Memory
 pub mod Changes

@@ -1,6 +1,8 @@
 -- A turn as the report of its last call tells it, with the counts of replies of "not yet", and the state and the script then.
-use Rattle.std.specs.Prelude.{ℕ, ◌+◌, List, [], ◌∷◌, slice_index_or, Bool, true, false}
+use Rattle.std.specs.Prelude.{ℕ, ◌+◌, List, [], ◌∷◌, slice_index_or, Bool, true, false, Option, if◌then◌else◌}
 use Rattle.xe_base.specs.declared.access.Made.{Made}
+use Rattle.xe_opmap.specs.declared.row.Row.{Row}
+use Rattle.xe_core.specs.Step.{is_done}
 use Rattle.xe_ctx.specs.State.{State}
 use Rattle.xe_ctx.specs.Tape.{Tape}
 use Rattle.xe_ctx.specs.declared.report.Outcome.{Outcome}
@@ -35,3 +37,7 @@ reported r counts s t = record {
   state = s;
   tape = t;
 }
+
+-- the report of a turn, by that of its last step, behind so many that finished, the last of them of this row
+abbrev pub led_report : ℕ → Option Row → Report → Report
+led_report k row r = record r { elements = if is_done r.outcome then k + 1 else k; finished = if is_done r.outcome then r.finished else row }

@@ -129,7 +129,6 @@ line_of (events.Handoff row handoff) = codes "handoff " ++ row_text row ++ space
 line_of (events.Exit row exit) = codes "exit " ++ row_text row ++ space ++ exit_text exit ++ newline
 line_of (events.Interrupt row kind vector next) = codes "event " ++ row_text row ++ space ++ interrupt_text kind vector next ++ newline
 line_of events.Unhandled = codes "unhandled" ++ newline
-line_of (events.Unbuilt row) = codes "unbuilt " ++ row_text row ++ newline
 line_of (events.BadState rule) = codes "badstate " ++ decimal rule ++ newline
 line_of (events.NotRam pa) = codes "notram " ++ hex pa ++ newline
 line_of (events.General gpr) = general_text gpr ++ newline
@@ -158,12 +157,11 @@ reason_text reason =
     (if reason == 11 then codes "too much ram" else
     (if reason == 12 then codes "late ram" else
     (if reason == 13 then codes "too many" else
-    (if reason == 14 then codes "too long" else
-    (if reason == 15 then codes "not built" else []))))))))))))))
+    (if reason == 14 then codes "too long" else [])))))))))))))
 
 -- the numbers of the reasons
 abbrev pub IsReason : ℕ → Type 0
-IsReason reason = (1 ≤ reason) × (reason ≤ 15)
+IsReason reason = (1 ≤ reason) × (reason ≤ 14)
 
 -- the line of a text that is refused
 unfoldable pub refusal_text : ℕ → ℕ → List ℕ

@@ -1,17 +1,18 @@
--- One turn of a run, which is one step for now: each access of the step is asked for until its device is ready. Nothing of a call is in
--- it: no suspension, no answer that is kept, no access that is compared. This project's choice.
-use Rattle.std.specs.Prelude.{ℕ, zero, suc, ◌^◌, ◌-◌, min, List, [], ◌∷◌, ◌++◌, if◌then◌else◌, Option, Some, None}
+-- One turn of a run: steps one after another, of which the last alone makes accesses; each of these is asked for until its device is ready.
+-- Nothing of a call is in it: no suspension, no answer that is kept, no access that is compared. This project's choice.
+use Rattle.std.specs.Prelude.{ℕ, zero, suc, ◌^◌, ◌+◌, ◌-◌, ◌==◌, min, List, [], ◌∷◌, ◌++◌, if◌then◌else◌, Option, Some, None}
 use Rattle.xe_base.specs.declared.access.Access.{Access}
 use Rattle.xe_base.specs.declared.access.Answer.{Answer}
 use Rattle.xe_base.specs.declared.access.Made.{Made}
 use Rattle.xe_opmap.specs.declared.row.Row.{Row}
 use Rattle.xe_ctx.specs.State.{State}
 use Rattle.xe_core.specs.Step.{Stepped, Ends, Wants, Ended, Wanted, is_done}
+use Rattle.xe_core.specs.Turn.{Steps, goes_on}
 use Rattle.xe_ctx.specs.Supply.{Supply, answers_alone}
 use Rattle.xe_ctx.specs.Tape.{Tape}
 use Rattle.xe_ctx.specs.declared.report.Outcome.{Outcome}
 use Rattle.xe_ctx.specs.declared.report.Outcome.TheVariants.{BusFault, Unhandled}
-use Rattle.xe_run.specs.Settled.{Settled, settled}
+use Rattle.xe_run.specs.Settled.{settled}
 
 -- an access that was answered, and how often its device wasn't ready before
 pub record Answered : Type 0 where
@@ -79,6 +80,20 @@ stepping_on (suc n) s stepping so_far t = followed (λ more after. stepping_on n
 abbrev pub rounds : ℕ
 rounds = 257
 
--- a turn over a script, from a state
-abbrev pub turn_over : State → (Supply → Stepped) → Tape → Turn
-turn_over s stepping t = stepping_on rounds s stepping [] t
+-- a step over a script, from a state
+abbrev pub step_over : State → (Supply → Stepped) → Tape → Turn
+step_over s stepping t = stepping_on rounds s stepping [] t
+
+-- a turn behind so many steps that finished, the last of them of this row
+abbrev pub led : ℕ → Option Row → Turn → Turn
+led k row t = record t { steps = k + t.steps; finished = if t.steps == 0 then row else t.finished }
+
+-- where a step finishes without any answer, leaves elements to be done and makes no access, another one follows; else it is the last
+abbrev pub going_on : (Ended → Turn) → Turn → Stepped → Turn
+going_on onward last (Ends e) = if goes_on e then led 1 e.row (onward e) else last
+going_on onward last (Wants w) = last
+
+-- a turn over a script, from a state: a step, and at most so many behind it
+unfoldable pub turn_over : Steps → ℕ → State → Tape → Turn
+turn_over steps zero s t = step_over s (steps s) t
+turn_over steps (suc n) s t = going_on (λ e. turn_over steps n e.state t) (step_over s (steps s) t) (steps s (answers_alone []))

@@ -12,24 +12,26 @@ ghost use Rattle.xe_run.specs.Told.{Rose, Writes};
 ghost use Rattle.xe_run.specs.Text.{text, line_of};
 ghost use Rattle.xe_run.specs.Drive as spec;
 ghost use Rattle.xe_run.specs.Driver.{world, HasRoomFor, HasRoomOf, SameRoom, Feeds};
-ghost use Rattle.xe_run.specs.Reported.{reported};
+ghost use Rattle.xe_run.specs.Reported.{reported, led_report};
 
+use crate::batch::Batch;
 use crate::event::Event;
 use crate::outside::{Failed, Sink};
 use crate::print::{print, print_all, print_memory};
 use crate::registers::{shown, with_register, with_segment, with_table};
-use crate::turn::{goes_on, is_pending, note_wait, tell_call, tell_turn};
+use crate::turn::{goes_on, is_done, is_pending, note_wait, tell_call, tell_turn};
 use arrayvec::ArrayVec;
 use std::alloc::Global;
 use xe_base::{Cpu, NoMemory, Seg, Space, Table};
 use xe_core::emulate_into;
 use xe_ctx::{Machine, Record, Report};
-use xe_icpt::NoHits;
+use xe_icpt::SvmSet;
 use xe_mem::{GuestMem, MemFault, Region};
+use xe_opmap::Row;
 use xe_scene::{Command, Commands, Dir, Item, Scene, ScriptBus};
 
-/// A machine with the devices that a scene scripts, the draft of its registers, and what `call` has kept
-/// of a suspended step.
+/// A machine with the devices that a scene scripts, the draft of its registers, what is intercepted, how
+/// many steps a turn has at most, and what `call` has kept of a suspended step.
 ///
 /// The report and the counts are those of the last turn or call. They stay from one to the next and
 /// are emptied, since to make them anew would cost more than a step.
@@ -37,6 +39,8 @@ use xe_scene::{Command, Commands, Dir, Item, Scene, ScriptBus};
 pub(crate) struct Driver {
     pub(crate) machine: Machine,
     pub(crate) draft: Cpu,
+    pub(crate) icpt: SvmSet,
+    pub(crate) batch: Batch,
     pub(crate) bus: ScriptBus,
     pub(crate) suspended: Record,
     pub(crate) report: Report,
@@ -67,6 +71,30 @@ fn machine_with(ram: GuestMem, cpu: Cpu) -> Machine
     }
 }
 
+/// How many steps finished before the last one.
+fn steps_before(report: &Report) -> u32
+    ensures { result ≡ calls.steps_before report.now }
+{
+    if is_done(&report.outcome) {
+        report.elements.saturating_sub(1)
+    } else {
+        report.elements
+    }
+}
+
+/// The report of a turn, by that of its last call and by the steps that finished before the last one.
+fn lead(report: &mut Report, elements: u32, finished: Option<Row>)
+    requires { elements < 1000 }
+    ensures { report.new ≡ led_report elements finished report.old }
+{
+    if is_done(&report.outcome) {
+        report.elements = elements + 1;
+    } else {
+        report.elements = elements;
+        report.finished = finished;
+    }
+}
+
 impl Driver {
     /// A machine with the RAM of a scene and the registers of a reset, and its devices.
     pub(crate) fn new(alloc: Global, scene: &Scene) -> Result<Driver, NoMemory>
@@ -80,6 +108,8 @@ impl Driver {
         Ok(Driver {
             machine,
             draft,
+            icpt: SvmSet::new(),
+            batch: Batch::new(1),
             bus,
             suspended: Record::new(),
             report: Report::new(),
@@ -87,48 +117,66 @@ impl Driver {
         })
     }
 
-    /// One step over the script with an empty log. It is called again after each device that isn't ready,
-    /// and goes on from the answers that it has; one whose device fails is given up.
-    fn step(&mut self)
-        requires { kept_of self.old.suspended ≡ nothing }
-        ensures turn { spec.turn (world self.old) ≡ reported self.new.report self.new.waits.items (state_of self.new.machine) (tape_of self.new.bus) }
+    /// One turn of at most so many steps, over the script with an empty log. The emulator is called again
+    /// after each device that isn't ready, and goes on from the answers that it has; a step whose device
+    /// fails is given up. The report then tells of the whole turn.
+    fn take_turn(&mut self, most: u32)
+        requires kept { kept_of self.old.suspended ≡ nothing }
+        requires some { 1 ≤ most }
+        requires few { most ≤ 1000 }
+        ensures turn { spec.turn most (world self.old) ≡ reported self.new.report self.new.waits.items (state_of self.new.machine) (tape_of self.new.bus) }
         ensures draft { self.new.draft ≡ self.old.draft }
+        ensures icpt { self.new.icpt ≡ self.old.icpt }
+        ensures batch { self.new.batch ≡ self.old.batch }
         ensures kept { kept_of self.new.suspended ≡ nothing }
         ensures room { SameRoom self.old self.new }
     {
         self.bus.begin();
         self.waits.clear();
-        'asking: loop {
+        emulate_into(
+            &mut self.machine,
+            &self.icpt,
+            &mut self.bus,
+            &mut self.suspended,
+            most,
+            &mut self.report,
+        );
+        let elements = steps_before(&self.report);
+        let finished = self.report.finished;
+        let mut pending = is_pending(&self.report);
+        'asking: while pending {
+            let at = self.suspended.answers().len();
+            note_wait(&mut self.waits, at);
             emulate_into(
                 &mut self.machine,
-                &NoHits,
+                &self.icpt,
                 &mut self.bus,
                 &mut self.suspended,
                 1,
                 &mut self.report,
             );
-            if !is_pending(&self.report) {
-                break;
-            }
-            let at = self.suspended.answers().len();
-            note_wait(&mut self.waits, at);
+            pending = is_pending(&self.report);
         }
         self.suspended.abandon();
+        lead(&mut self.report, elements, finished);
     }
 
-    /// One turn with its lines; answers whether the run goes on.
-    fn turn<K: Sink>(&mut self, out: &mut K) -> Result<bool, Failed>
-        requires { kept_of self.old.suspended ≡ nothing }
-        ensures goes_on { IfOk result (λ b. b ≡ spec.goes_on_after (spec.turn (world self.old)).outcome) }
-        ensures after { OnOk result (world self.new ≡ spec.turned (world self.old) (spec.turn (world self.old))) }
-        ensures writes { Writes result (K.written out.old) (text (spec.turn_events (world self.old).machine.cpu (spec.turn (world self.old)))) (K.written out.new) }
+    /// One turn of the steps that are left, with its lines; answers whether the run goes on.
+    fn turn<K: Sink>(&mut self, left: u64, out: &mut K) -> Result<bool, Failed>
+        requires kept { kept_of self.old.suspended ≡ nothing }
+        requires left { 1 ≤ left }
+        ensures goes_on { IfOk result (λ b. b ≡ spec.goes_on_after (spec.next_turn left (world self.old)).outcome) }
+        ensures steps { OnOk result (self.new.report.elements ≡ (spec.next_turn left (world self.old)).steps) }
+        ensures after { OnOk result (world self.new ≡ spec.turned (world self.old) (spec.next_turn left (world self.old))) }
+        ensures writes { Writes result (K.written out.old) (text (spec.turn_events (world self.old).machine.cpu (spec.next_turn left (world self.old)))) (K.written out.new) }
         ensures kept { kept_of self.new.suspended ≡ nothing }
         ensures room { SameRoom self.old self.new }
         ensures count { K.faults out.old ≤ K.faults out.new }
         ensures failed { OnErr result (Rose (K.faults out.old) (K.faults out.new)) }
     {
         let before = *self.machine.cpu();
-        self.step();
+        let most = self.batch.next(left);
+        self.take_turn(most);
         tell_turn(
             &self.report,
             self.waits.as_slice(),
@@ -148,10 +196,15 @@ impl Driver {
         ensures count { K.faults out.old ≤ K.faults out.new }
         ensures failed { OnErr result (Rose (K.faults out.old) (K.faults out.new)) }
     {
-        for step in 0..steps {
-            if !self.turn(out)? {
+        let mut left = steps;
+        for round in 0..steps {
+            if left == 0 {
                 return Ok(());
             }
+            if !self.turn(left, out)? {
+                return Ok(());
+            }
+            left = left.saturating_sub(u64::from(self.report.elements));
         }
         Ok(())
     }
@@ -208,10 +261,10 @@ impl Driver {
         self.bus.begin();
         emulate_into(
             &mut self.machine,
-            &NoHits,
+            &self.icpt,
             &mut self.bus,
             &mut self.suspended,
-            1,
+            self.batch.most(),
             &mut self.report,
         );
         kept
@@ -290,6 +343,14 @@ impl Driver {
             .feed(space, dir.is_write(), address, items.as_slice());
     }
 
+    /// A model-specific register with a direction joins those that are intercepted.
+    fn intercept_msr(&mut self, write: bool, number: u32)
+        ensures after { world self.new ≡ record (world self.old) { icpt = spec.with_msr self.old.icpt number write } }
+        ensures room { SameRoom self.old self.new }
+    {
+        let _ = self.icpt.msr(number, write);
+    }
+
     /// Obeys one command.
     #[tactic(auto, unfolding(crate::specs::Drive::obeyed))]
     fn obey<K: Sink>(&mut self, command: &Command, out: &mut K) -> Result<(), Failed>
@@ -327,6 +388,26 @@ impl Driver {
             Command::Poke(pa, bytes) => self.poke(*pa, bytes, out),
             Command::Dev(space, dir, address, items) => {
                 self.feed(*space, *dir, *address, items);
+                Ok(())
+            }
+            Command::Icpt(name) => {
+                self.icpt.set(*name);
+                Ok(())
+            }
+            Command::Unicpt(name) => {
+                self.icpt.clear(*name);
+                Ok(())
+            }
+            Command::Ioport(low, high) => {
+                self.icpt.ports(*low as u16, *high as u16);
+                Ok(())
+            }
+            Command::Icptmsr(direction, number) => {
+                self.intercept_msr(direction.is_write(), *number as u32);
+                Ok(())
+            }
+            Command::Batch(most) => {
+                self.batch = Batch::new(*most);
                 Ok(())
             }
             Command::Run(steps) => self.run(*steps, out),

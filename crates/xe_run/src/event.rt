@@ -4,7 +4,7 @@ ghost use Rattle.xe_run.specs.Text as spec;
 
 use crate::event_lines::{
     bad_state_line, bus_fault_line, diverged_line, exit_line, fault_line, handoff_line,
-    interrupt_line, io_line, not_ram_line, pending_line, step_line, unbuilt_line, unhandled_line,
+    interrupt_line, io_line, not_ram_line, pending_line, step_line, unhandled_line,
 };
 use crate::line::Line;
 use crate::shown::{control_line, general_line, memory_line, segment_line, table_line};
@@ -74,8 +74,6 @@ pub(crate) enum Event {
     },
     /// A step ended at bytes that are no instruction that is known.
     Unhandled,
-    /// A step ended at an instruction that isn't built.
-    Unbuilt(Option<Row>),
     /// A draft of the registers was refused, for this rule of a valid state.
     BadState(u8),
     /// An address that was named isn't RAM.
@@ -123,7 +121,6 @@ pub(crate) fn line_of(event: &Event) -> Line
         } => interrupt_line(*row, *kind, *vector, *next),
         Event::Handoff { row, handoff } => handoff_line(*row, *handoff),
         Event::Unhandled => unhandled_line(),
-        Event::Unbuilt(row) => unbuilt_line(*row),
         Event::BadState(rule) => bad_state_line(*rule),
         Event::NotRam(pa) => not_ram_line(*pa),
         Event::General(gpr) => general_line(gpr),

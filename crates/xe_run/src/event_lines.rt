@@ -96,17 +96,6 @@ pub(crate) fn handoff_line(row: Option<Row>, handoff: Handoff) -> Line
     line
 }
 
-/// The line of an instruction that isn't built.
-pub(crate) fn unbuilt_line(row: Option<Row>) -> Line
-    ensures { result ≡ spec.line_of (Event.Unbuilt row) }
-{
-    let mut line = Line::new();
-    line.push(b"unbuilt ");
-    push_row(&mut line, row);
-    line.push(b"\n");
-    line
-}
-
 /// The line of bytes that are no instruction that is known.
 pub(crate) fn unhandled_line() -> Line
     ensures { result ≡ spec.line_of Event.Unhandled }

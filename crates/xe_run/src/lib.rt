@@ -4,6 +4,7 @@
 
 mod access_text;
 mod adapters;
+mod batch;
 mod changes;
 mod driver;
 mod end_text;

@@ -26,7 +26,6 @@ fn reason_text(reason: u8) -> &'static [u8]
         12 => b"late ram",
         13 => b"too many",
         14 => b"too long",
-        15 => b"not built",
         _ => unreachable!(),
     }
 }

@@ -86,13 +86,29 @@ fn a_failing_device_ends_a_run(rt: HostRuntime) -> Result<(), Fail> {
     Ok(())
 }
 
+/// A port that is intercepted, and one that isn't any more; a batch, of which an instruction that leaves
+/// nothing to be done uses one step; and a read that waits.
+const INTERCEPTS: &str =
+    "x86emu 1\nram 0 10000\npoke 100 e460e460f4\nreg rip 100\nicpt ioio\nioport 60 60\nbatch 5\nrun 9\nunicpt ioio\ndev port r 60 wait 41\nrun 2\nicpt hlt\nicptmsr r 10\nrun 3\n";
+
+const INTERCEPTS_TRACE: &[u8] =
+    b"exit in 7b 600091 102\nio port r 60 1 41 1\nstep in 1 rip=102 flags=2 rax=41\nio port r 60 1 ff 0\nstep in 1 rip=104 flags=2 rax=ff\nexit hlt 78 0 0\n";
+
+#[test]
+fn runs_with_intercepts_and_batches(rt: HostRuntime) -> Result<(), Fail> {
+    let (status, bytes, _) = ran(rt.alloc(), "run", INTERCEPTS, &[], &[])?;
+    assert_eq!(rt; status, Status::Ok);
+    assert_eq!(rt; bytes.as_slice(), INTERCEPTS_TRACE);
+    Ok(())
+}
+
 #[test]
 fn refuses_a_bad_line(rt: HostRuntime) -> Result<(), Fail> {
-    let (status, bytes, _) = ran(rt.alloc(), "run", "x86emu 1\nrun 1\nbatch 3\n", &[], &[])?;
+    let (status, bytes, _) = ran(rt.alloc(), "run", "x86emu 1\nrun 1\nbatch 1001\n", &[], &[])?;
     assert_eq!(rt; status, Status::Refused);
     assert_eq!(rt;
         bytes.as_slice(),
-        b"refused line 3 reason 15 not built\n".as_slice()
+        b"refused line 3 reason 8 bad number\n".as_slice()
     );
     Ok(())
 }
@@ -156,7 +172,7 @@ const CHECKS: [(&str, &str); 16] = [
         "x86emu 1\ndev port r 60 no",
         "refused line 2 reason 7 unknown name\n",
     ),
-    ("x86emu 1\nbatch 3", "refused line 2 reason 15 not built\n"),
+    ("x86emu 1\nbatch 3", "ok\n"),
 ];
 
 #[test]
@@ -170,10 +186,10 @@ fn checks_texts(rt: HostRuntime) -> Result<(), Fail> {
 
 /// Every rule of a valid state that a draft may break, and what is said of each.
 const BAD_DRAFTS: &str =
-    "x86emu 1\nreg rflags 0\nrun 1\nreg cr0 0\nrun 1\nreg cr4 1\nshow\nreg efer 2\nshow\nreg cr8 10\nshow\nseg es 0 100000000 0 93\nshow\nreg cpl 1\nshow\nreg cr4 20\nreg efer 500\nreg cr0 80000011\nseg cs 0 0 ffff 69b\nshow\nreg rip 100000000\nshow\nreg cr0 11\nshow\nrun 1\n";
+    "x86emu 1\nreg rflags 0\nrun 1\nreg cr0 0\nrun 1\nreg cr4 1\nshow\nreg efer 2\nshow\nreg cr8 10\nshow\nseg es 0 100000000 0 93\nshow\nreg cpl 1\nshow\nreg cr4 20\nreg efer 500\nreg cr0 80000011\nseg cs 0 0 ffff 69b\nshow\nreg rip 100000000\nshow\nreg cr0 11\nrun 1\n";
 
 const BAD_DRAFTS_TRACE: &[u8] =
-    b"badstate 1\nbadstate 2\nbadstate 3\nbadstate 4\nbadstate 5\nbadstate 6\nbadstate 7\nbadstate 8\nbadstate 9\nbadstate 20\nhandoff - fetch 0\n";
+    b"badstate 1\nbadstate 2\nbadstate 3\nbadstate 4\nbadstate 5\nbadstate 6\nbadstate 7\nbadstate 8\nbadstate 9\nhandoff - fetch 0\n";
 
 #[test]
 fn refuses_drafts(rt: HostRuntime) -> Result<(), Fail> {

@@ -3,6 +3,7 @@ ghost use Rattle.std.specs.Prelude.{◌≡◌, ◌≤◌, ◌<◌, ◌+◌, ◌+
 ghost use Rattle.xe_run.specs.Told.{Rose, Writes};
 ghost use Rattle.xe_run.specs.Text.{text};
 ghost use Rattle.xe_run.specs.Turn.{counted};
+ghost use Rattle.xe_core.specs.Step.{is_done};
 ghost use Rattle.xe_run.specs.Drive as spec;
 ghost use Rattle.xe_run.specs.Reported.{count_at, with_waits, is_pending};
 
@@ -58,7 +59,6 @@ fn end_event(report: &Report, before: &Cpu, after: &Cpu) -> Event
             kept,
             wanted,
         },
-        Outcome::Unbuilt(row) => Event::Unbuilt(row),
     }
 }
 
@@ -85,8 +85,7 @@ pub(crate) fn goes_on(outcome: &Outcome) -> bool
         | Outcome::Handoff(_)
         | Outcome::Unhandled
         | Outcome::BusFault(_)
-        | Outcome::Diverged { .. }
-        | Outcome::Unbuilt(_) => false,
+        | Outcome::Diverged { .. } => false,
     }
 }
 
@@ -104,8 +103,52 @@ pub(crate) fn note_wait(waits: &mut ArrayVec<u64, 256>, at: usize)
     waits[at] = waits[at].saturating_add(1);
 }
 
-/// Writes the lines of a turn: the accesses of its step, and then how it ended.
-pub(crate) fn tell_turn<K: Sink>(
+/// Whether the last step finished.
+pub(crate) fn is_done(outcome: &Outcome) -> bool
+    ensures { result ≡ is_done outcome.now }
+{
+    match outcome {
+        Outcome::Done { .. } => true,
+        Outcome::Pending(_)
+        | Outcome::Fault(_)
+        | Outcome::Intercept(_)
+        | Outcome::Event { .. }
+        | Outcome::Handoff(_)
+        | Outcome::Unhandled
+        | Outcome::BusFault(_)
+        | Outcome::Diverged { .. } => false,
+    }
+}
+
+/// Writes the line of the steps that finished before one that didn't, where there are such.
+fn tell_steps<K: Sink>(
+    report: &Report,
+    before: &Cpu,
+    after: &Cpu,
+    out: &mut K,
+) -> Result<(), Failed>
+    ensures writes { Writes result (K.written out.old) (text (spec.steps_event before.now after.now report.now.elements report.now.finished report.now.outcome)) (K.written out.new) }
+    ensures count { K.faults out.old ≤ K.faults out.new }
+    ensures failed { OnErr result (Rose (K.faults out.old) (K.faults out.new)) }
+{
+    if is_done(&report.outcome) {
+        return Ok(());
+    }
+    if report.elements == 0 {
+        return Ok(());
+    }
+    let event = Event::Step {
+        row: report.finished,
+        count: report.elements,
+        before: *before,
+        after: *after,
+        retire: 0,
+    };
+    print(&event, out)
+}
+
+/// Writes the lines of the last step of a turn: its accesses, and then how the turn ended.
+fn tell_last_of_turn<K: Sink>(
     report: &Report,
     waits: &[u64],
     before: &Cpu,
@@ -120,9 +163,26 @@ pub(crate) fn tell_turn<K: Sink>(
     print(&end_event(report, before, after), out)
 }
 
-/// Writes the lines of a call: the accesses that it answered, behind so many that were kept before, and
-/// then how it ended.
-pub(crate) fn tell_call<K: Sink>(
+/// Writes the lines of a turn: the steps that finished before one that didn't, the accesses of the
+/// last step, and then how it ended.
+pub(crate) fn tell_turn<K: Sink>(
+    report: &Report,
+    waits: &[u64],
+    before: &Cpu,
+    after: &Cpu,
+    out: &mut K,
+) -> Result<(), Failed>
+    ensures writes { Writes result (K.written out.old) (text (spec.steps_event before.now after.now report.now.elements report.now.finished report.now.outcome ++ (map spec.io_event (with_waits report.now.accesses.items waits.now) ++ spec.end_event before.now after.now report.now.elements report.now.finished report.now.row report.now.outcome ∷ []))) (K.written out.new) }
+    ensures count { K.faults out.old ≤ K.faults out.new }
+    ensures failed { OnErr result (Rose (K.faults out.old) (K.faults out.new)) }
+{
+    tell_steps(report, before, after, out)?;
+    tell_last_of_turn(report, waits, before, after, out)
+}
+
+/// Writes the lines of the last step of a call: the accesses that the call answered, behind so many that
+/// were kept before, and then how it ended.
+fn tell_last_of_call<K: Sink>(
     report: &Report,
     kept: usize,
     before: &Cpu,
@@ -136,4 +196,21 @@ pub(crate) fn tell_call<K: Sink>(
     let accesses = report.accesses.as_slice();
     print_accesses(&accesses[kept.min(accesses.len())..], out)?;
     print(&end_event(report, before, after), out)
+}
+
+/// Writes the lines of a call: the steps that finished before one that didn't, the accesses that it
+/// answered, behind so many that were kept before, and then how it ended.
+pub(crate) fn tell_call<K: Sink>(
+    report: &Report,
+    kept: usize,
+    before: &Cpu,
+    after: &Cpu,
+    out: &mut K,
+) -> Result<(), Failed>
+    ensures writes { Writes result (K.written out.old) (text (spec.steps_event before.now after.now report.now.elements report.now.finished report.now.outcome ++ (map spec.call_event (drop kept report.now.accesses.items) ++ spec.end_event before.now after.now report.now.elements report.now.finished report.now.row report.now.outcome ∷ []))) (K.written out.new) }
+    ensures count { K.faults out.old ≤ K.faults out.new }
+    ensures failed { OnErr result (Rose (K.faults out.old) (K.faults out.new)) }
+{
+    tell_steps(report, before, after, out)?;
+    tell_last_of_call(report, kept, before, after, out)
 }
