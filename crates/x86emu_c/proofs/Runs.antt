@@ -1,8 +1,8 @@
 -- A run of the machine in C's struct is the library's.
-use Rattle.std.proofs.Common.{◌≡◌, ℕ, refl, sym, subst}
+use Rattle.std.proofs.Common.{◌≡◌, ℕ, subst}
 use Rattle.std.specs.Prelude.{Option, Some, None, false}
 use Rattle.xe_core.specs.Step.{is_diverged}
-use Rattle.x86emu_c.specs.Emulated.{Emulated, machine_in}
+use Rattle.x86emu_c.specs.Emulated.{Emulated}
 use Rattle.x86emu_c.specs.Ran.{Ran, HasRun}
 use Rattle.x86emu_c.specs.Told.{Told}
 use Rattle.x86emu_c.specs.declared.report.X86emuReport.{X86emuReport}

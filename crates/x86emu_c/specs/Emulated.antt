@@ -1,9 +1,8 @@
-use Rattle.std.specs.Prelude.{ℕ, ◌≡◌, ◌≤◌, ◌^◌, List, [], ◌∷◌, ◌++◌, length, All, Bool, true, false, Option, Some, None, IsSome, if◌then◌else◌}
+use Rattle.std.specs.Prelude.{ℕ, List, [], ◌∷◌, ◌++◌, Bool, Option, Some, None, if◌then◌else◌}
 use Rattle.std.specs.FinSet.{empty}
-use Rattle.xe_base.specs.Access.{answers_to, IsWellMade}
+use Rattle.xe_base.specs.Access.{answers_to}
 use Rattle.xe_base.specs.Ram.{Area, put_bytes}
 use Rattle.xe_base.specs.Reset.{reset_state}
-use Rattle.xe_base.specs.State.{Valid}
 use Rattle.xe_base.specs.declared.access.Access.{Access}
 use Rattle.xe_base.specs.declared.access.Answer.{Answer}
 use Rattle.xe_base.specs.declared.access.Made.{Made}

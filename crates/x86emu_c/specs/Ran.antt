@@ -1,11 +1,10 @@
-use Rattle.std.specs.Prelude.{ℕ, ◌≡◌, ◌≤◌, List, length, slice_get, All, false, Option, Some, None, IsSome, if◌then◌else◌}
+use Rattle.std.specs.Prelude.{ℕ, ◌≡◌, ◌≤◌, List, slice_get, All, false, Option, Some, None, IsSome, if◌then◌else◌}
 use Rattle.xe_base.specs.Access.{IsWellMade}
 use Rattle.xe_base.specs.State.{Valid}
 use Rattle.xe_base.specs.declared.access.Made.{Made}
-use Rattle.xe_icpt.specs.SvmSet.{Svm, svm_hit}
-use Rattle.xe_ctx.specs.State.{State}
+use Rattle.xe_icpt.specs.SvmSet.{svm_hit}
 use Rattle.xe_ctx.specs.Supply.{answers, answers_alone}
-use Rattle.xe_core.specs.Call.{Tells, Led, Stands, StandsEach, Fits, divergence, before_last}
+use Rattle.xe_core.specs.Call.{Tells, Led, Stands, Fits, divergence, before_last}
 use Rattle.xe_core.specs.Emulate.{steps_of}
 use Rattle.xe_core.specs.Step.{is_done, is_diverged}
 use Rattle.xe_core.specs.Turn.{Steps, after_steps}

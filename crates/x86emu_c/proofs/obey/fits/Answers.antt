@@ -1,4 +1,3 @@
-use Rattle.std.proofs.Common.{refl, sym}
 use Rattle.x86emu_c.proofs.Sizes.{fits-all, fits-some}
 use Rattle.x86emu_c.proofs.obey.fits.Goals as goal
 

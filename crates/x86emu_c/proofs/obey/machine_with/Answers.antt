@@ -1,4 +1,4 @@
-use Rattle.std.proofs.Common.{rules, ◌≡◌, refl, sym, ap, ◌∙◌}
+use Rattle.std.proofs.Common.{ap}
 use Rattle.x86emu_c.proofs.Reset.{reset-valid}
 use Rattle.xe_base.specs.State.{broken}
 use Rattle.x86emu_c.proofs.obey.machine_with.Goals as goal

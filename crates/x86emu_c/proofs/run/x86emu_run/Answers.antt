@@ -1,6 +1,5 @@
-use Rattle.std.proofs.Common.{rules, ◌≡◌, refl, sym, ap, subst}
-use Rattle.x86emu_c.specs.Emulated.{Emulated, seen, machine_in}
-use Rattle.x86emu_c.specs.Ran.{Ran, HasRun}
+use Rattle.std.proofs.Common.{◌≡◌, sym, subst}
+use Rattle.x86emu_c.specs.Emulated.{seen, machine_in}
 use Rattle.x86emu_c.specs.Told.{Told}
 use Rattle.x86emu_c.proofs.Runs.{has_run}
 use Rattle.x86emu_c.proofs.run.x86emu_run.Goals as goal
