@@ -1,5 +1,5 @@
-/* Plays a scenario of this repository through the C face, and prints its trace as `x86emu run` does, but without the instructions'
- * names: for scenarios of ram, poke, reg (general registers and rip), dev and one run. scripts/check-c compares the two. */
+/* Plays a scenario of this repository through the C face, and prints its trace as `x86emu run` does: for scenarios of ram, poke,
+ * reg (general registers and rip), dev and one run. scripts/check-c compares the two. */
 #include <inttypes.h>
 #include <stdio.h>
 #include <stdlib.h>
@@ -53,8 +53,10 @@ static void tell_accesses(x86emu_machine *m, const x86emu_report *r, const unsig
                made.access.size, made.access.write ? made.access.value : made.answer, waits[i]);
 }
 
-static void tell_step(const x86emu_report *r, const x86emu_cpu *old, const x86emu_cpu *new) {
-    printf("step %u rip=%" PRIx64 " flags=%" PRIx64, r->elements, new->rip, new->rflags);
+static void tell_step(x86emu_machine *m, const x86emu_report *r, const x86emu_cpu *old, const x86emu_cpu *new) {
+    x86emu_name_text name;
+    x86emu_instruction(m, true, &name);
+    printf("step %s %u rip=%" PRIx64 " flags=%" PRIx64, name.text, r->elements, new->rip, new->rflags);
     for (int i = 0; i < 16; i++) if (old->gpr[i] != new->gpr[i]) printf(" %s=%" PRIx64, names[i], new->gpr[i]);
     if (r->retire) printf(" retire=%x", r->retire);
     printf("\n");
@@ -77,7 +79,7 @@ static bool step(x86emu_machine *m) {
         printf("end %u vector %u code %x\n", r.end, r.vector, r.code);
         return false;
     }
-    tell_step(&r, &old, &new);
+    tell_step(m, &r, &old, &new);
     return !(r.retire & X86EMU_RETIRE_HALT);
 }
 

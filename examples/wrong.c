@@ -13,12 +13,14 @@ static void no_machine(void) {
     x86emu_cpu cpu;
     x86emu_report r;
     x86emu_made made;
+    x86emu_name_text name;
     uint8_t b[4] = { 0 };
     memset(&cpu, 0, sizeof cpu);
     puts("no machine:");
     SAY(X86EMU_NO_MACHINE, x86emu_run(&m, 1, &r));
     SAY(X86EMU_END_NONE, r.end);
     SAY(X86EMU_NO_MACHINE, x86emu_made_at(&m, 0, &made));
+    SAY(X86EMU_NO_MACHINE, x86emu_instruction(&m, true, &name));
     SAY(X86EMU_NO_MACHINE, x86emu_answer(&m, 1));
     SAY(X86EMU_NO_MACHINE, x86emu_answer_none(&m));
     SAY(X86EMU_NO_MACHINE, x86emu_abandon(&m));

@@ -228,6 +228,14 @@ uint32_t x86emu_run(x86emu_machine *m, uint32_t batch, x86emu_report *report);
 /* One of the accesses of the last run's last step, by its number from 0. */
 uint32_t x86emu_made_at(x86emu_machine *m, uint32_t index, x86emu_made *made);
 
+/* The name of an instruction as the table has it (docs/INSTRUCTIONS.md), with a zero behind it; empty where there is none. */
+typedef struct x86emu_name_text {
+    char text[16];
+} x86emu_name_text;
+
+/* Names the instruction of the last run's last step, empty where it wasn't decoded; or of its last step that finished. */
+uint32_t x86emu_instruction(x86emu_machine *m, bool finished, x86emu_name_text *name);
+
 /* Answers the access that awaits one: a value below 2^(8 * size); for a write any such value. The next x86emu_run goes on with it. */
 uint32_t x86emu_answer(x86emu_machine *m, uint64_t value);
 
@@ -253,6 +261,7 @@ X86EMU_LAYOUT(sizeof(x86emu_cpu) == 368 && offsetof(x86emu_cpu, es) == 144 && of
 X86EMU_LAYOUT(offsetof(x86emu_cpu, cr0) == 304 && offsetof(x86emu_cpu, cpl) == 360);
 X86EMU_LAYOUT(sizeof(x86emu_access) == 24 && offsetof(x86emu_access, write) == 21);
 X86EMU_LAYOUT(sizeof(x86emu_made) == 40 && offsetof(x86emu_made, answered) == 32);
+X86EMU_LAYOUT(sizeof(x86emu_name_text) == 16);
 X86EMU_LAYOUT(sizeof(x86emu_report) == 104 && offsetof(x86emu_report, at) == 20 && offsetof(x86emu_report, more) == 24);
 X86EMU_LAYOUT(offsetof(x86emu_report, value) == 32 && offsetof(x86emu_report, access) == 56 && offsetof(x86emu_report, wanted) == 80);
 #endif

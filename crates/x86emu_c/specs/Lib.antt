@@ -1,4 +1,5 @@
 pub mod Emulated
+pub mod Named
 pub mod Owned
 pub mod Posted
 pub mod Ran

@@ -14,6 +14,7 @@ mod held;
 mod intercepts;
 mod loose;
 mod mailbox;
+mod name;
 mod obey;
 mod registers;
 mod report;
