@@ -1,0 +1,5 @@
+mod HeldValues
+mod LooseValues
+mod Reset
+mod Runs
+mod Sizes
