@@ -153,13 +153,13 @@ module _ (s : State) (hits : Point → Option Exit) (old : Sight) (start : old.s
     unfolding accepted
     finishes f new d =
         tried-before old.step (accepted insn.len old.step).work old.kept old.bus new (step_of s hits) (Some insn.row) _ _
-            (tried_finish (step_of s hits) (accepted insn.len old.step) old.kept old.bus none-made s insn.row (table insn s.cpu) steps new f d)
+        (tried_finish (step_of s hits) (accepted insn.len old.step) old.kept old.bus none-made s insn.row (table insn s.cpu) steps new f d)
 
     stops-so : (e : Stop) (new : Sight) → Is (table insn s.cpu) (accepts insn.len old) (Err e) new → Tried (step_of s hits) old (Some insn.row) (outcome_of e) s new
     unfolding accepted
     stops-so e new d =
         tried-before old.step (accepted insn.len old.step).work old.kept old.bus new (step_of s hits) (Some insn.row) _ _
-            (tried_stop (step_of s hits) (accepted insn.len old.step) old.kept old.bus none-made s insn.row (table insn s.cpu) steps new e d)
+        (tried_stop (step_of s hits) (accepted insn.len old.step) old.kept old.bus none-made s insn.row (table insn s.cpu) steps new e d)
 
 -- what a call knows of an instruction that it has begun: the sights at its start and where it was accepted, and the registers
 module _ (s : State) (hits : Point → Option Exit) (old taken begun new : Sight) (insn : Insn) (cpu : Cpu) (start : old.step ≡ begins s hits) (h : Ok insn ≡ fetched s) (of_ : IsOf s.cpu insn) (step : taken ≡ old) (accept : begun ≡ accepts insn.len taken) (registers : cpu ≡ s.cpu) (out : Result End Stop) (draft : Cpu) (d : Is (table insn cpu) begun (finished out draft) new) where
