@@ -33,7 +33,7 @@ use Rattle.xe_run.specs.declared.event.Event.TheVariants as events
 use Rattle.xe_core.specs.Call as calls
 use Rattle.xe_ctx.specs.Tape.{Tape}
 use Rattle.xe_ctx.specs.declared.report.Report.{Report}
-use Rattle.xe_run.proofs.TurnLaws.{call-shows}
+use Rattle.xe_run.proofs.WorldLaws.{call-shows}
 use Rattle.xe_run.proofs.TextLaws.{text-append, text-nil, text-one, next}
 
 -- the error, or another value where there is none

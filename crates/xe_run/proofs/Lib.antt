@@ -4,6 +4,7 @@ pub mod TextLaws
 pub mod SettledLaws
 pub mod StepLaws
 pub mod TurnLaws
+pub mod WorldLaws
 pub mod DriveLaws
 pub mod ReasonLaws
 pub mod TopLaws

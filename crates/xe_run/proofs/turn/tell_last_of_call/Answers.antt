@@ -1,7 +1,7 @@
 use Rattle.std.proofs.Common.{drop, map}
 use Rattle.xe_run.proofs.TextLaws.{text-snoc}
 use Rattle.xe_run.proofs.ToldLaws.{writes_then, writes_fails}
-use Rattle.xe_run.proofs.TurnLaws.{drop_within}
+use Rattle.xe_run.proofs.WorldLaws.{drop_within}
 use Rattle.xe_run.specs.Drive.{call_event}
 use Rattle.xe_run.proofs.turn.tell_last_of_call.Goals as goal
 

@@ -1,6 +1,6 @@
 use Rattle.std.proofs.Common.{sym, ◌∙◌}
 use Rattle.xe_run.proofs.DriveLaws.{nothing-written}
-use Rattle.xe_run.proofs.TurnLaws.{steps-done, steps-none, steps-some}
+use Rattle.xe_run.proofs.WorldLaws.{steps-done, steps-none, steps-some}
 use Rattle.xe_run.proofs.turn.tell_steps.Goals as goal
 
 pub returns-then-is_done-clause-writes : goal.returns-then-is_done-clause-writes

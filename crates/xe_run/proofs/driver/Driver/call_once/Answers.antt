@@ -1,6 +1,6 @@
 use Rattle.std.proofs.Common.{refl}
 use Rattle.xe_run.specs.Driver.{world}
-use Rattle.xe_run.proofs.TurnLaws.{call-told, call-after}
+use Rattle.xe_run.proofs.WorldLaws.{call-told, call-after}
 use Rattle.xe_run.proofs.driver.Driver.call_once.Goals as goal
 
 pub returns-clause-called : goal.returns-clause-called

@@ -6,7 +6,8 @@ use Rattle.xe_scene.specs.Script.{tape_of}
 use Rattle.xe_run.specs.Drive.{hits_of}
 use Rattle.xe_run.specs.Driver.{world}
 use Rattle.xe_run.specs.Reported.{reported}
-use Rattle.xe_run.proofs.TurnLaws.{Says, asked-first, asked-again, asked-suspends, ahead-less, turn-told, room-begins, room-stays, says-as, row-before, undone-pending}
+use Rattle.xe_run.proofs.TurnLaws.{Says, says-as}
+use Rattle.xe_run.proofs.WorldLaws.{asked-first, asked-again, asked-suspends, ahead-less, turn-told, room-begins, room-stays, row-before, undone-pending}
 use Rattle.xe_run.proofs.driver.Driver.take_turn.Goals as goal
 
 pub asking-init : goal.asking-init

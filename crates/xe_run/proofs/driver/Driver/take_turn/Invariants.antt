@@ -7,7 +7,8 @@ use Rattle.xe_scene.specs.Script.{tape_of, log_room}
 use Rattle.xe_run.specs.Drive.{hits_of}
 use Rattle.xe_run.specs.Driver.{world, SameRoom}
 use Rattle.xe_run.specs.Reported.{is_pending}
-use Rattle.xe_run.proofs.TurnLaws.{Asked, measure}
+use Rattle.xe_run.proofs.TurnLaws.{measure}
+use Rattle.xe_run.proofs.WorldLaws.{Asked}
 use Rattle.xe_run.proofs.driver.Driver.take_turn.Given as goal
 
 abbrev pub invariant-asking : goal.invariant-asking

@@ -2,7 +2,7 @@ use Rattle.std.proofs.Common.{sym, ap, ◌∙◌}
 use Rattle.xe_run.specs.Drive.{turn}
 use Rattle.xe_run.specs.Driver.{world}
 use Rattle.xe_run.proofs.ToldLaws.{writes_err}
-use Rattle.xe_run.proofs.TurnLaws.{turn-after}
+use Rattle.xe_run.proofs.WorldLaws.{turn-after}
 use Rattle.xe_run.proofs.driver.Driver.turn.Goals as goal
 
 pub returns-in_err-tell_turn-clause-writes : goal.returns-in_err-tell_turn-clause-writes

@@ -1,7 +1,7 @@
 use Rattle.std.proofs.Common.{◌-◌, ◌+◌, sym, refl, ap, ◌∙◌, arith, inl, inr}
 use Rattle.xe_run.specs.Driver.{world}
 use Rattle.xe_run.proofs.ToldLaws.{progress_more, progress_ends, progress_fails}
-use Rattle.xe_run.proofs.TurnLaws.{begins-so, goes-on, stops-here, turns-past, then_nothing, not-zero, is-zero}
+use Rattle.xe_run.proofs.WorldLaws.{begins-so, goes-on, stops-here, turns-past, then_nothing, not-zero, is-zero}
 use Rattle.xe_run.proofs.driver.Driver.turns.Goals as goal
 
 pub returns-then-left-eq0-clause-after : goal.returns-then-left-eq0-clause-after
