@@ -1,21 +1,15 @@
-use Rattle.std.proofs.Common.{ℕ, ◌≡◌, ◌≤◌, ◌+◌, ◌*◌, Bool, true, false, Option, Some, None, arith, lit≤, if◌then◌else◌, ◌==◌, ◌&&◌}
+use Rattle.std.proofs.Common.{ℕ, ◌≤◌, ◌*◌, Bool, true, false, Option, Some, None, arith, lit≤, if◌then◌else◌, ◌==◌, ◌&&◌}
 use Rattle.xe_base.specs.Exceptions.{plain_exception, exception, divide_error, general_protection}
 use Rattle.xe_base.specs.State.{mode_of}
 use Rattle.xe_base.specs.declared.cpu.Cpu.{Cpu}
 use Rattle.xe_base.specs.declared.segment.SegName.{SegName}
 use Rattle.xe_flags.specs.Decimals.{bcd_ax, bcd_flags}
 use Rattle.xe_flags.specs.declared.arithmetic.AluOp.{AluOp}
-use Rattle.xe_flags.specs.declared.arithmetic.AluOp.TheVariants as AluOp
 use Rattle.xe_flags.specs.declared.bits.BitOp.{BitOp}
-use Rattle.xe_flags.specs.declared.bits.BitOp.TheVariants as BitOp
 use Rattle.xe_flags.specs.declared.decimals.BcdOp.{BcdOp}
-use Rattle.xe_flags.specs.declared.decimals.BcdOp.TheVariants as BcdOp
 use Rattle.xe_flags.specs.declared.one_operand.UnOp.{UnOp}
-use Rattle.xe_flags.specs.declared.one_operand.UnOp.TheVariants as UnOp
 use Rattle.xe_flags.specs.declared.scans.ScanOp.{ScanOp}
-use Rattle.xe_flags.specs.declared.scans.ScanOp.TheVariants as ScanOp
 use Rattle.xe_flags.specs.declared.shifts.ShiftOp.{ShiftOp}
-use Rattle.xe_flags.specs.declared.shifts.ShiftOp.TheVariants as ShiftOp
 use Rattle.xe_opmap.specs.declared.insn.Insn.{Insn}
 use Rattle.xe_opmap.specs.declared.row.Row.{Row}
 use Rattle.xe_opmap.specs.declared.row.Row.TheVariants as row

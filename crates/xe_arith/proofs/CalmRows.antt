@@ -1,4 +1,4 @@
-use Rattle.std.proofs.Common.{ℕ, ◌≡◌, Bool, true, false, ◌==◌, ◌&&◌, ◌-◌, ◌^◌, ◌∙◌, Option, Some, None, Result, Ok, Err, IfOk}
+use Rattle.std.proofs.Common.{ℕ, ◌≡◌, Bool, true, false, ◌==◌, ◌&&◌, Option, Some, None, Result, Ok, Err, IfOk}
 use Rattle.xe_base.specs.Exceptions.{plain_exception, exception, divide_error, general_protection}
 use Rattle.xe_base.specs.State.{Valid, mode_of}
 use Rattle.xe_base.specs.declared.cpu.Cpu.{Cpu}

@@ -9,7 +9,7 @@ use Rattle.xe_opmap.specs.declared.row.Row.TheVariants as row
 use Rattle.xe_flags.specs.Status.{at_place}
 use Rattle.xe_flags.proofs.FlagSet.{fixed_written}
 use Rattle.xe_ctx.specs.Finishes.{EachGives, IsSound}
-use Rattle.xe_ctx.specs.Operand.{IsOf, ends}
+use Rattle.xe_ctx.specs.Operand.{IsOf}
 use Rattle.xe_ctx.specs.Is.{Sight, Is}
 use Rattle.xe_ctx.specs.Runs.{finished}
 use Rattle.xe_ctx.specs.declared.stop.End.{End}
