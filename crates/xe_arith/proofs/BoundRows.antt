@@ -1,59 +1,41 @@
-use Rattle.std.proofs.Common.{ℕ, ◌≡◌, ◌≤◌, ◌+◌, ◌*◌, Bool, true, false, Option, Some, None, subst, sym, inl, inr, arith, lit≤, if◌then◌else◌, ◌==◌, ◌&&◌}
-use Rattle.std.proofs.lemmas.Bool.{or_cases, eqb-true}
+use Rattle.std.proofs.Common.{ℕ, ◌≤◌, ◌*◌, Bool, true, false, Option, Some, None, arith, lit≤, if◌then◌else◌, ◌==◌, ◌&&◌}
 use Rattle.xe_base.specs.Exceptions.{plain_exception, exception, divide_error, general_protection}
 use Rattle.xe_base.specs.State.{mode_of}
 use Rattle.xe_base.specs.declared.cpu.Cpu.{Cpu}
 use Rattle.xe_base.specs.declared.segment.SegName.{SegName}
 use Rattle.xe_flags.specs.Decimals.{bcd_ax, bcd_flags}
 use Rattle.xe_flags.specs.declared.arithmetic.AluOp.{AluOp}
-use Rattle.xe_flags.specs.declared.arithmetic.AluOp.TheVariants as AluOp
 use Rattle.xe_flags.specs.declared.bits.BitOp.{BitOp}
-use Rattle.xe_flags.specs.declared.bits.BitOp.TheVariants as BitOp
 use Rattle.xe_flags.specs.declared.decimals.BcdOp.{BcdOp}
-use Rattle.xe_flags.specs.declared.decimals.BcdOp.TheVariants as BcdOp
 use Rattle.xe_flags.specs.declared.one_operand.UnOp.{UnOp}
-use Rattle.xe_flags.specs.declared.one_operand.UnOp.TheVariants as UnOp
 use Rattle.xe_flags.specs.declared.scans.ScanOp.{ScanOp}
-use Rattle.xe_flags.specs.declared.scans.ScanOp.TheVariants as ScanOp
 use Rattle.xe_flags.specs.declared.shifts.ShiftOp.{ShiftOp}
-use Rattle.xe_flags.specs.declared.shifts.ShiftOp.TheVariants as ShiftOp
-use Rattle.xe_opmap.specs.Encoding.{IsSize}
 use Rattle.xe_opmap.specs.declared.insn.Insn.{Insn}
 use Rattle.xe_opmap.specs.declared.row.Row.{Row}
 use Rattle.xe_opmap.specs.declared.row.Row.TheVariants as row
 use Rattle.xe_ctx.specs.Bounds.{TakesAtMost}
 use Rattle.xe_ctx.specs.Chunks.{most}
 use Rattle.xe_ctx.specs.Operand.{IsOf, ax, reads, writes, ends, size_by_opcode, operand_of, read_operand, read_for_write, write_operand}
-use Rattle.xe_ctx.specs.Tree.{Tree, ◌>>=◌, fault, load, load_for_write, store}
+use Rattle.xe_ctx.specs.Tree.{Tree, ◌>>=◌, fault, load_for_write, store}
 use Rattle.xe_ctx.specs.declared.operand.Operand.{Operand}
 use Rattle.xe_ctx.specs.declared.operand.Operand.TheVariants.{Register, Memory}
 use Rattle.xe_ctx.specs.declared.stop.Finish.{Finish}
-use Rattle.xe_ctx.proofs.BoundLaws.{takes_more, takes_then, takes_if}
-use Rattle.xe_ctx.proofs.RowBounds.{Small, small-1, small-2, small-4, small-8, small-of, small-if, read, fetch, write}
+use Rattle.xe_ctx.proofs.BoundLaws.{takes_then, takes_if}
+use Rattle.xe_ctx.proofs.RowBounds.{Small, small-1, small-of, small-if, read, fetch, write}
 use Rattle.xe_arith.specs.Alu.{alu_row, cmp_row, test_row}
 use Rattle.xe_arith.specs.Bit.{bt_row, bit_row, scan_row}
-use Rattle.xe_arith.specs.Condition.{cmov_row, set_row}
 use Rattle.xe_arith.specs.Decimal.{divides, decimal_row}
 use Rattle.xe_arith.specs.Exchange.{xadd_row, put_back, compared, cmpxchg_row, half_size, is_misaligned, pair_row, pair_at, cmpxchg8b_row}
-use Rattle.xe_arith.specs.Extend.{narrow_size, movzx_row, movsx_row}
-use Rattle.xe_arith.specs.Moves.{move_size, mov_row, exchange_size, xchg_row, xlat_row}
 use Rattle.xe_arith.specs.Multiply.{mul_row, imul_to_register, imul_row, quotient_row, div_row}
 use Rattle.xe_arith.specs.Rows.{row_at, or_undefined, row_of}
 use Rattle.xe_arith.specs.Shift.{shift_row, double_row}
-use Rattle.xe_arith.specs.Sized.{low, with_flags}
-use Rattle.xe_arith.specs.Source.{read_source}
+use Rattle.xe_move.specs.Sized.{low, with_flags}
+use Rattle.xe_move.proofs.BoundRows.{source}
 use Rattle.xe_arith.specs.Unary.{unary_size, unary_row}
-use Rattle.xe_arith.specs.declared.source.Source.{Source}
-use Rattle.xe_arith.specs.declared.source.Source.TheVariants.{Number, Place}
 
 -- ---- the parts of a row
 
 module _ (insn : Insn) (cpu : Cpu) where
-  source : (from : Source) (n : ℕ) → Small n → TakesAtMost 1 4 10 (read_source insn cpu from n)
-  unfolding read_source
-  source (Number value) n s = tt
-  source (Place operand) n s = read insn cpu operand n s
-
   back : (after : Cpu) (operand : Operand) (n value : ℕ) → Small n → TakesAtMost 1 4 18 (put_back insn after operand n value)
   unfolding put_back
   back after (Register r) n value s = tt
@@ -104,24 +86,6 @@ module _ (insn : Insn) (cpu : Cpu) (of_ : IsOf cpu insn) where
   small-unary : Small (unary_size insn)
   small-unary = small-if _ insn.opsize (size_by_opcode insn) small-operand small-by
 
-  small-move : Small (move_size insn)
-  small-move = small-if _ (size_by_opcode insn) _ small-by (small-if _ 1 insn.opsize small-1 small-operand)
-
-  small-exchange : Small (exchange_size insn)
-  small-exchange = small-if _ (size_by_opcode insn) insn.opsize small-by small-operand
-
-  small-narrow : Small (narrow_size insn)
-  small-narrow = small-if _ _ _ (small-if _ 2 4 small-2 small-4) (small-if _ 1 2 small-1 small-2)
-
-  most_mov : TakesAtMost 64 12 38 (mov_row insn cpu)
-  most_mov = takes_then _ 63 8 28 (λ value. last insn cpu cpu _ _ value _ small-move (λ after. tt)) 1 4 10 _ (source insn cpu _ _ small-move)
-
-  most_xchg : TakesAtMost 64 12 38 (xchg_row insn cpu)
-  most_xchg = read_and_written insn cpu _ _ _ small-exchange (λ value. last insn cpu _ _ _ _ _ small-exchange (λ after. tt))
-
-  most_xlat : TakesAtMost 64 12 38 (xlat_row insn cpu)
-  most_xlat = read_alone insn cpu _ _ _ small-1 (λ value. tt)
-
   most_alu : (op : AluOp) → TakesAtMost 64 12 38 (alu_row op insn cpu)
   most_alu op = read_and_written insn cpu _ _ _ small-by (λ a. takes_then _ 62 4 18 (λ b. takes_then _ 61 0 0 (λ after. tt) 1 4 18 _ (write insn cpu _ _ _ _ small-by)) 1 4 10 _ (source insn cpu _ _ small-by))
 
@@ -134,23 +98,11 @@ module _ (insn : Insn) (cpu : Cpu) (of_ : IsOf cpu insn) where
   most_unary : (op : UnOp) → TakesAtMost 64 12 38 (unary_row op insn cpu)
   most_unary op = read_and_written insn cpu _ _ _ small-unary (λ a. last insn cpu _ _ _ _ _ small-unary (λ after. tt))
 
-  most_cmov : TakesAtMost 64 12 38 (cmov_row insn cpu)
-  most_cmov = read_alone insn cpu _ _ _ small-operand (λ value. tt)
-
-  most_set : TakesAtMost 64 12 38 (set_row insn cpu)
-  most_set = takes_then _ 63 8 20 (λ after. tt) 1 4 18 _ (write insn cpu _ _ _ _ small-1)
-
   most_shift : (op : ShiftOp) → TakesAtMost 64 12 38 (shift_row op insn cpu)
   most_shift op = read_and_written insn cpu _ _ _ small-by (λ a. last insn cpu _ _ _ _ _ small-by (λ after. tt))
 
   most_double : (left : Bool) → TakesAtMost 64 12 38 (double_row left insn cpu)
   most_double left = read_and_written insn cpu _ _ _ small-operand (λ a. last insn cpu _ _ _ _ _ small-operand (λ after. tt))
-
-  most_movzx : TakesAtMost 64 12 38 (movzx_row insn cpu)
-  most_movzx = read_alone insn cpu _ _ _ small-narrow (λ value. tt)
-
-  most_movsx : TakesAtMost 64 12 38 (movsx_row insn cpu)
-  most_movsx = read_alone insn cpu _ _ _ small-narrow (λ value. tt)
 
   most_mul : (is_signed : Bool) → TakesAtMost 64 12 38 (mul_row is_signed insn cpu)
   most_mul is_signed = read_alone insn cpu _ _ _ small-by (λ b. tt)
@@ -200,10 +152,6 @@ module _ (insn : Insn) (cpu : Cpu) (of_ : IsOf cpu insn) where
   most_cmpxchg8b = most_pair_at (operand_of insn cpu)
 
   taken_at : (r : Row) → TakesAtMost 64 12 38 (or_undefined (row_at r) insn cpu)
-  taken_at row.Mov = most_mov
-  taken_at row.Lea = tt
-  taken_at row.Xchg = most_xchg
-  taken_at row.Nop = tt
   taken_at row.Add = most_alu AluOp.Add
   taken_at row.Or = most_alu AluOp.Or
   taken_at row.Adc = most_alu AluOp.Adc
@@ -217,15 +165,6 @@ module _ (insn : Insn) (cpu : Cpu) (of_ : IsOf cpu insn) where
   taken_at row.Dec = most_unary UnOp.Dec
   taken_at row.Not = most_unary UnOp.Not
   taken_at row.Neg = most_unary UnOp.Neg
-  taken_at row.Cmc = tt
-  taken_at row.Clc = tt
-  taken_at row.Stc = tt
-  taken_at row.Cld = tt
-  taken_at row.Std = tt
-  taken_at row.Sahf = tt
-  taken_at row.Lahf = tt
-  taken_at row.Cmov = most_cmov
-  taken_at row.Set = most_set
   taken_at row.Rol = most_shift ShiftOp.Rol
   taken_at row.Ror = most_shift ShiftOp.Ror
   taken_at row.Rcl = most_shift ShiftOp.Rcl
@@ -235,13 +174,6 @@ module _ (insn : Insn) (cpu : Cpu) (of_ : IsOf cpu insn) where
   taken_at row.Sar = most_shift ShiftOp.Sar
   taken_at row.Shld = most_double true
   taken_at row.Shrd = most_double false
-  taken_at row.Cbw = tt
-  taken_at row.Cwd = tt
-  taken_at row.Movzx = most_movzx
-  taken_at row.Movsx = most_movsx
-  taken_at row.Movsxd = most_movsx
-  taken_at row.Xlat = most_xlat
-  taken_at row.Bswap = tt
   taken_at row.Mul = most_mul false
   taken_at row.Imul = most_imul
   taken_at row.Div = most_div false

@@ -1,6 +1,4 @@
-use Rattle.std.proofs.Common.{ℕ, ◌≡◌, Bool, true, false, not, ◌==◌, ◌&&◌, ◌-◌, ◌^◌, refl, ◌∙◌, bit_and, Option, Some, None, Result, Ok, Err, IfOk}
-use Rattle.std.proofs.lemmas.Nat.{and_or_apart, and_assoc}
-use Rattle.xe_base.specs.Calm.{fixed_flags}
+use Rattle.std.proofs.Common.{ℕ, ◌≡◌, Bool, true, false, ◌==◌, ◌&&◌, Option, Some, None, Result, Ok, Err, IfOk}
 use Rattle.xe_base.specs.Exceptions.{plain_exception, exception, divide_error, general_protection}
 use Rattle.xe_base.specs.State.{Valid, mode_of}
 use Rattle.xe_base.specs.declared.cpu.Cpu.{Cpu}
@@ -13,7 +11,6 @@ use Rattle.xe_flags.specs.declared.shifts.ShiftOp.{ShiftOp}
 use Rattle.xe_flags.specs.declared.decimals.BcdOp.{BcdOp}
 use Rattle.xe_flags.specs.declared.bits.BitOp.{BitOp}
 use Rattle.xe_flags.specs.declared.scans.ScanOp.{ScanOp}
-use Rattle.xe_flags.specs.Status.{at_place}
 use Rattle.xe_flags.proofs.FlagSet.{fixed_written, fixed_unary, fixed_shift, fixed_double}
 use Rattle.xe_ctx.specs.Finishes.{EachGives, IsSound}
 use Rattle.xe_ctx.specs.Operand.{IsOf, ax, has_rex, reads, writes, operand_of, ends}
@@ -27,15 +24,11 @@ use Rattle.xe_ctx.specs.declared.stop.Stop.{Stop}
 use Rattle.xe_ctx.proofs.FinishLaws.{each_then, each_implies, gives_of}
 use Rattle.xe_base.specs.declared.segment.SegName.{SegName}
 use Rattle.xe_arith.specs.Alu.{alu_row, cmp_row, test_row}
-use Rattle.xe_arith.specs.Condition.{cmov_row, set_row}
-use Rattle.xe_arith.specs.Flag.{carry_row, with_direction, direction_row, sahf_row, lahf_row}
-use Rattle.xe_arith.specs.Moves.{mov_row, lea_row, xchg_row, nop_row, xlat_row, bswap_row}
 use Rattle.xe_arith.specs.Bit.{bt_row, bit_row, found_written, scan_row}
 use Rattle.xe_arith.specs.Decimal.{divides, decimal_row}
 use Rattle.xe_arith.specs.Exchange.{xadd_row, put_back, compared, cmpxchg_row, pair_loaded, pair_row, is_misaligned, pair_at, cmpxchg8b_row}
-use Rattle.xe_arith.specs.Extend.{cbw_row, cwd_row, movzx_row, movsx_row}
 use Rattle.xe_arith.specs.Multiply.{pair_written, mul_row, imul_to_register, imul_row, quotient_row, div_row}
-use Rattle.xe_arith.specs.Sized.{low, with_flags}
+use Rattle.xe_move.specs.Sized.{low, with_flags}
 use Rattle.xe_flags.specs.Decimals.{bcd_ax, bcd_flags}
 use Rattle.xe_arith.specs.Shift.{shift_row, double_row}
 use Rattle.xe_arith.specs.Unary.{unary_row}
@@ -43,30 +36,8 @@ use Rattle.xe_ctx.specs.Plain.{EndsPlainly}
 use Rattle.xe_arith.specs.Rows.{row_at, or_undefined, row_of, is_row}
 use Rattle.xe_ctx.proofs.Tame.{Tame, tame_same, tame_flags, tame_register, tame_operand, tame_if, plain_end, plain_sound, asked_then, written_end, each_if}
 
--- DF is none of the bits that no instruction changes
-fixed_placed : (down : Bool) → bit_and (at_place down 10) (2 ^ 64 - 1 - 0x247FD5) ≡ 0
-fixed_placed true = refl
-fixed_placed false = refl
-
-fixed_direction : (flags : ℕ) (down : Bool) → fixed_flags (with_direction flags down) ≡ fixed_flags flags
-fixed_direction flags down =
-    and_or_apart (2 ^ 64 - 1 - 0x247FD5) (bit_and flags (2 ^ 64 - 1 - 2 ^ 10)) (at_place down 10) (fixed_placed down)
-    ∙ and_assoc (2 ^ 64 - 1 - 0x247FD5) flags (2 ^ 64 - 1 - 2 ^ 10)
-
 -- Each row ends plainly.
 module _ (insn : Insn) (cpu : Cpu) where
-  calm_mov : EachGives (EndsPlainly insn cpu) (mov_row insn cpu)
-  calm_mov = asked_then (EndsPlainly insn cpu) _ _ (λ value. written_end insn cpu cpu _ _ value (tame_same cpu))
-
-  calm_lea : EachGives (EndsPlainly insn cpu) (lea_row insn cpu)
-  calm_lea = plain_end insn cpu _ (tame_register _ _ _ _ (tame_same cpu))
-
-  calm_xchg : EachGives (EndsPlainly insn cpu) (xchg_row insn cpu)
-  calm_xchg = asked_then (EndsPlainly insn cpu) _ _ (λ value. written_end insn cpu _ _ _ _ (tame_register _ _ _ value (tame_same cpu)))
-
-  calm_nop : EachGives (EndsPlainly insn cpu) (nop_row insn cpu)
-  calm_nop = plain_end insn cpu cpu (tame_same cpu)
-
   calm_alu : (op : AluOp) → EachGives (EndsPlainly insn cpu) (alu_row op insn cpu)
   calm_alu op = asked_then (EndsPlainly insn cpu) _ _ (λ a. asked_then (EndsPlainly insn cpu) _ _ (λ b. written_end insn cpu _ _ _ _ (tame_flags _ (tame_same cpu) (fixed_written cpu.rflags _))))
 
@@ -79,47 +50,11 @@ module _ (insn : Insn) (cpu : Cpu) where
   calm_unary : (op : UnOp) → EachGives (EndsPlainly insn cpu) (unary_row op insn cpu)
   calm_unary op = asked_then (EndsPlainly insn cpu) _ _ (λ a. written_end insn cpu _ _ _ _ (tame_flags _ (tame_same cpu) (fixed_unary _ op _ cpu.rflags)))
 
-  calm_carry : (new : Bool → Bool) → EachGives (EndsPlainly insn cpu) (carry_row new insn cpu)
-  calm_carry new = plain_end insn cpu _ (tame_flags _ (tame_same cpu) (fixed_written cpu.rflags _))
-
-  calm_direction : (down : Bool) → EachGives (EndsPlainly insn cpu) (direction_row down insn cpu)
-  calm_direction down = plain_end insn cpu _ (tame_flags _ (tame_same cpu) (fixed_direction cpu.rflags down))
-
-  calm_sahf : EachGives (EndsPlainly insn cpu) (sahf_row insn cpu)
-  calm_sahf = plain_end insn cpu _ (tame_flags _ (tame_same cpu) (fixed_written cpu.rflags _))
-
-  calm_lahf : EachGives (EndsPlainly insn cpu) (lahf_row insn cpu)
-  calm_lahf = plain_end insn cpu _ (tame_register _ _ _ _ (tame_same cpu))
-
-  calm_cmov : EachGives (EndsPlainly insn cpu) (cmov_row insn cpu)
-  calm_cmov = asked_then (EndsPlainly insn cpu) _ _ (λ value. plain_end insn cpu _ (tame_register _ _ _ _ (tame_same cpu)))
-
-  calm_set : EachGives (EndsPlainly insn cpu) (set_row insn cpu)
-  calm_set = written_end insn cpu cpu _ _ _ (tame_same cpu)
-
   calm_shift : (op : ShiftOp) → EachGives (EndsPlainly insn cpu) (shift_row op insn cpu)
   calm_shift op = asked_then (EndsPlainly insn cpu) _ _ (λ a. written_end insn cpu _ _ _ _ (tame_flags _ (tame_same cpu) (fixed_shift _ op _ _ cpu.rflags)))
 
   calm_double : (left : Bool) → EachGives (EndsPlainly insn cpu) (double_row left insn cpu)
   calm_double left = asked_then (EndsPlainly insn cpu) _ _ (λ a. written_end insn cpu _ _ _ _ (tame_flags _ (tame_same cpu) (fixed_double _ left _ _ _ cpu.rflags)))
-
-  calm_cbw : EachGives (EndsPlainly insn cpu) (cbw_row insn cpu)
-  calm_cbw = plain_end insn cpu _ (tame_register _ _ _ _ (tame_same cpu))
-
-  calm_cwd : EachGives (EndsPlainly insn cpu) (cwd_row insn cpu)
-  calm_cwd = plain_end insn cpu _ (tame_register _ _ _ _ (tame_same cpu))
-
-  calm_movzx : EachGives (EndsPlainly insn cpu) (movzx_row insn cpu)
-  calm_movzx = asked_then (EndsPlainly insn cpu) _ _ (λ value. plain_end insn cpu _ (tame_register _ _ _ _ (tame_same cpu)))
-
-  calm_movsx : EachGives (EndsPlainly insn cpu) (movsx_row insn cpu)
-  calm_movsx = asked_then (EndsPlainly insn cpu) _ _ (λ value. plain_end insn cpu _ (tame_register _ _ _ _ (tame_same cpu)))
-
-  calm_xlat : EachGives (EndsPlainly insn cpu) (xlat_row insn cpu)
-  calm_xlat = asked_then (EndsPlainly insn cpu) _ _ (λ value. plain_end insn cpu _ (tame_register _ _ _ _ (tame_same cpu)))
-
-  calm_bswap : EachGives (EndsPlainly insn cpu) (bswap_row insn cpu)
-  calm_bswap = plain_end insn cpu _ (tame_register _ _ _ _ (tame_same cpu))
 
   tame_pair : (after : Cpu) (n high word : ℕ) → Tame cpu after → Tame cpu (pair_written insn after n high word)
   tame_pair after n high word t = tame_if cpu _ _ (n == 1) (tame_register _ _ _ _ t) (tame_register _ _ _ _ (tame_register _ _ _ _ t))
@@ -191,10 +126,6 @@ module _ (insn : Insn) (cpu : Cpu) where
 
   -- a row of this crate
   plain_at : (r : Row) → EachGives (EndsPlainly insn cpu) (or_undefined (row_at r) insn cpu)
-  plain_at row.Mov = calm_mov
-  plain_at row.Lea = calm_lea
-  plain_at row.Xchg = calm_xchg
-  plain_at row.Nop = calm_nop
   plain_at row.Add = calm_alu AluOp.Add
   plain_at row.Or = calm_alu AluOp.Or
   plain_at row.Adc = calm_alu AluOp.Adc
@@ -208,15 +139,6 @@ module _ (insn : Insn) (cpu : Cpu) where
   plain_at row.Dec = calm_unary UnOp.Dec
   plain_at row.Not = calm_unary UnOp.Not
   plain_at row.Neg = calm_unary UnOp.Neg
-  plain_at row.Cmc = calm_carry not
-  plain_at row.Clc = calm_carry (λ old. false)
-  plain_at row.Stc = calm_carry (λ old. true)
-  plain_at row.Cld = calm_direction false
-  plain_at row.Std = calm_direction true
-  plain_at row.Sahf = calm_sahf
-  plain_at row.Lahf = calm_lahf
-  plain_at row.Cmov = calm_cmov
-  plain_at row.Set = calm_set
   plain_at row.Rol = calm_shift ShiftOp.Rol
   plain_at row.Ror = calm_shift ShiftOp.Ror
   plain_at row.Rcl = calm_shift ShiftOp.Rcl
@@ -226,13 +148,6 @@ module _ (insn : Insn) (cpu : Cpu) where
   plain_at row.Sar = calm_shift ShiftOp.Sar
   plain_at row.Shld = calm_double true
   plain_at row.Shrd = calm_double false
-  plain_at row.Cbw = calm_cbw
-  plain_at row.Cwd = calm_cwd
-  plain_at row.Movzx = calm_movzx
-  plain_at row.Movsx = calm_movsx
-  plain_at row.Movsxd = calm_movsx
-  plain_at row.Xlat = calm_xlat
-  plain_at row.Bswap = calm_bswap
   plain_at row.Mul = calm_mul false
   plain_at row.Imul = calm_imul
   plain_at row.Div = calm_div false

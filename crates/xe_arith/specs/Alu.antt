@@ -6,10 +6,10 @@ use Rattle.xe_ctx.specs.Definition.{ℕ, Bool, nat_lt, not, Cpu, Insn, Tree, ◌
 use Rattle.xe_ctx.specs.declared.operand.Operand.{Operand}
 use Rattle.xe_ctx.specs.declared.operand.Operand.TheVariants.{Register}
 use Rattle.xe_ctx.specs.declared.stop.Finish.{Finish}
-use Rattle.xe_arith.specs.Sized.{low, with_flags}
-use Rattle.xe_arith.specs.Source.{read_source}
-use Rattle.xe_arith.specs.declared.source.Source.{Source}
-use Rattle.xe_arith.specs.declared.source.Source.TheVariants.{Number, Place}
+use Rattle.xe_move.specs.Sized.{low, with_flags}
+use Rattle.xe_move.specs.Source.{read_source}
+use Rattle.xe_move.specs.declared.source.Source.{Source}
+use Rattle.xe_move.specs.declared.source.Source.TheVariants.{Number, Place}
 
 -- Operations on two operands (SDM volume 2, "ADD", "OR", "ADC", "SBB", "AND", "SUB", "XOR", "CMP" and "TEST"). The eight
 -- share their forms: of each eight opcodes below 40, the first two are E with G, the next two G with E, then the

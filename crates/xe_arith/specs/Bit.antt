@@ -9,7 +9,7 @@ use Rattle.xe_flags.specs.declared.scans.ScanOp.{ScanOp}
 use Rattle.xe_ctx.specs.declared.operand.Operand.{Operand}
 use Rattle.xe_ctx.specs.declared.operand.Operand.TheVariants.{Register, Memory}
 use Rattle.xe_ctx.specs.declared.stop.Finish.{Finish}
-use Rattle.xe_arith.specs.Sized.{low, with_flags}
+use Rattle.xe_move.specs.Sized.{low, with_flags}
 
 -- Single bits (SDM volume 2, "BT", "BTS", "BTR", "BTC", "BSF", "BSR" and "POPCNT").
 

@@ -5,7 +5,7 @@ use Rattle.xe_flags.specs.Decimals.{bcd_ax, bcd_flags}
 use Rattle.xe_flags.specs.declared.decimals.BcdOp.{BcdOp}
 use Rattle.xe_flags.specs.declared.decimals.BcdOp.TheVariants.{Daa, Das, Aaa, Aas, Aam, Aad}
 use Rattle.xe_ctx.specs.declared.stop.Finish.{Finish}
-use Rattle.xe_arith.specs.Sized.{low, with_flags}
+use Rattle.xe_move.specs.Sized.{low, with_flags}
 
 -- Decimal corrections of AX (SDM volume 2, "DAA", "DAS", "AAA", "AAS", "AAM" and "AAD").
 

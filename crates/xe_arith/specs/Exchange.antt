@@ -10,7 +10,7 @@ use Rattle.xe_flags.specs.declared.arithmetic.AluOp.TheVariants.{Add, Cmp}
 use Rattle.xe_ctx.specs.declared.operand.Operand.{Operand}
 use Rattle.xe_ctx.specs.declared.operand.Operand.TheVariants.{Register, Memory}
 use Rattle.xe_ctx.specs.declared.stop.Finish.{Finish}
-use Rattle.xe_arith.specs.Sized.{low, with_flags}
+use Rattle.xe_move.specs.Sized.{low, with_flags}
 
 -- Exchanges that compute or compare (SDM volume 2, "XADD", "CMPXCHG" and "CMPXCHG8B/CMPXCHG16B").
 

@@ -1,12 +1,6 @@
-pub mod Source
-pub mod Sized
-pub mod Moves
 pub mod Alu
 pub mod Unary
-pub mod Flag
-pub mod Condition
 pub mod Shift
-pub mod Extend
 pub mod Multiply
 pub mod Decimal
 pub mod Bit

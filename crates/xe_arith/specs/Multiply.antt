@@ -5,7 +5,7 @@ use Rattle.xe_base.specs.Registers.{register_value}
 use Rattle.xe_flags.specs.Products.{low_half, high_half, mul_flags}
 use Rattle.xe_flags.specs.Quotients.{divided}
 use Rattle.xe_ctx.specs.declared.stop.Finish.{Finish}
-use Rattle.xe_arith.specs.Sized.{low, with_flags}
+use Rattle.xe_move.specs.Sized.{low, with_flags}
 
 -- Products and quotients (SDM volume 2, "MUL", "IMUL", "DIV" and "IDIV").
 

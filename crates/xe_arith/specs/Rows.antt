@@ -12,12 +12,8 @@ use Rattle.xe_ctx.specs.Operand.{is_some}
 use Rattle.xe_ctx.specs.declared.stop.Finish.{Finish}
 use Rattle.xe_arith.specs.Alu.{alu_row, cmp_row, test_row}
 use Rattle.xe_arith.specs.Bit.{bt_row, bit_row, scan_row}
-use Rattle.xe_arith.specs.Condition.{cmov_row, set_row}
 use Rattle.xe_arith.specs.Decimal.{decimal_row}
 use Rattle.xe_arith.specs.Exchange.{xadd_row, cmpxchg_row, cmpxchg8b_row}
-use Rattle.xe_arith.specs.Extend.{cbw_row, cwd_row, movzx_row, movsx_row}
-use Rattle.xe_arith.specs.Flag.{cmc_row, clc_row, stc_row, direction_row, sahf_row, lahf_row}
-use Rattle.xe_arith.specs.Moves.{mov_row, lea_row, xchg_row, nop_row, xlat_row, bswap_row}
 use Rattle.xe_arith.specs.Multiply.{mul_row, imul_row, div_row}
 use Rattle.xe_arith.specs.Shift.{shift_row, double_row}
 use Rattle.xe_arith.specs.Unary.{unary_row}
@@ -26,10 +22,6 @@ use Rattle.xe_arith.specs.Unary.{unary_row}
 
 -- what an instruction of each row does, from the registers; none for the rows that aren't of this crate
 abbrev pub row_at : Row → Option (Insn → Cpu → Tree Finish)
-row_at row.Mov = Some mov_row
-row_at row.Lea = Some lea_row
-row_at row.Xchg = Some xchg_row
-row_at row.Nop = Some nop_row
 row_at row.Add = Some (alu_row AluOp.Add)
 row_at row.Or = Some (alu_row AluOp.Or)
 row_at row.Adc = Some (alu_row AluOp.Adc)
@@ -43,15 +35,6 @@ row_at row.Inc = Some (unary_row UnOp.Inc)
 row_at row.Dec = Some (unary_row UnOp.Dec)
 row_at row.Not = Some (unary_row UnOp.Not)
 row_at row.Neg = Some (unary_row UnOp.Neg)
-row_at row.Cmc = Some cmc_row
-row_at row.Clc = Some clc_row
-row_at row.Stc = Some stc_row
-row_at row.Cld = Some (direction_row false)
-row_at row.Std = Some (direction_row true)
-row_at row.Sahf = Some sahf_row
-row_at row.Lahf = Some lahf_row
-row_at row.Cmov = Some cmov_row
-row_at row.Set = Some set_row
 row_at row.Rol = Some (shift_row ShiftOp.Rol)
 row_at row.Ror = Some (shift_row ShiftOp.Ror)
 row_at row.Rcl = Some (shift_row ShiftOp.Rcl)
@@ -61,13 +44,6 @@ row_at row.Shr = Some (shift_row ShiftOp.Shr)
 row_at row.Sar = Some (shift_row ShiftOp.Sar)
 row_at row.Shld = Some (double_row true)
 row_at row.Shrd = Some (double_row false)
-row_at row.Cbw = Some cbw_row
-row_at row.Cwd = Some cwd_row
-row_at row.Movzx = Some movzx_row
-row_at row.Movsx = Some movsx_row
-row_at row.Movsxd = Some movsx_row
-row_at row.Xlat = Some xlat_row
-row_at row.Bswap = Some bswap_row
 row_at row.Mul = Some (mul_row false)
 row_at row.Imul = Some imul_row
 row_at row.Div = Some (div_row false)

@@ -4,7 +4,7 @@ use Rattle.xe_flags.specs.DoubleShifts.{double_word, double_flags}
 use Rattle.xe_flags.specs.Shifts.{shift_word, shift_flags}
 use Rattle.xe_flags.specs.declared.shifts.ShiftOp.{ShiftOp}
 use Rattle.xe_ctx.specs.declared.stop.Finish.{Finish}
-use Rattle.xe_arith.specs.Sized.{low, with_flags}
+use Rattle.xe_move.specs.Sized.{low, with_flags}
 
 -- Shifts and rotates (SDM volume 2, "RCL/RCR/ROL/ROR", "SAL/SAR/SHL/SHR", "SHLD" and "SHRD"). A count that changes nothing
 -- writes its operand all the same.

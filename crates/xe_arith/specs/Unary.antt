@@ -5,7 +5,7 @@ use Rattle.xe_flags.specs.declared.one_operand.UnOp.{UnOp}
 use Rattle.xe_ctx.specs.declared.operand.Operand.{Operand}
 use Rattle.xe_ctx.specs.declared.operand.Operand.TheVariants.{Register}
 use Rattle.xe_ctx.specs.declared.stop.Finish.{Finish}
-use Rattle.xe_arith.specs.Sized.{low, with_flags}
+use Rattle.xe_move.specs.Sized.{low, with_flags}
 
 -- Operations on one operand (SDM volume 2, "INC", "DEC", "NOT" and "NEG").
 

@@ -3,10 +3,9 @@
 ghost use Rattle.std.specs.Prelude.{◌≡◌};
 ghost use Rattle.xe_ctx.specs.Contract.{ℕ, IsOf, IsOperand, IsReady, Finishes, cpu_of};
 ghost use Rattle.xe_arith.specs.Alu.{is_from_e, is_immediate, alu_target, alu_source, alu_row, cmp_row, test_is_immediate, test_source, test_row};
-ghost use Rattle.xe_arith.specs.Source.{IsSource};
+ghost use Rattle.xe_move.specs.Source.{IsSource};
 
 use crate::sized::alu_at;
-use crate::source::{Source, read_source};
 use xe_base::Cpu;
 use xe_ctx::operand::{
     Operand, done, operand_of, read_for_write, read_operand, reg_of, size_by_opcode, write_operand,
@@ -14,6 +13,7 @@ use xe_ctx::operand::{
 use xe_ctx::{Bus, Ctx, End, Stop};
 use xe_flags::AluOp;
 use xe_icpt::Intercepts;
+use xe_move::source::{Source, read_source};
 use xe_opmap::Insn;
 
 /// Whether G is computed from E: the opcodes 02, 03, 0A, 0B and so on.

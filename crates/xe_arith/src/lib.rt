@@ -1,23 +1,18 @@
-//! Moves, arithmetic and logic: the rows of the instruction table that work on general registers, status
+//! Arithmetic and logic: the rows of the instruction table that compute from general registers, status
 //! flags and operands in memory.
 //!
-//! Each row stands beside its definition: that of `moves` in `specs/Moves.antt`, and so on.
+//! Each row stands beside its definition: that of `alu` in `specs/Alu.antt`, and so on.
 #![tactic(auto, using(xe_ctx::proofs::Trees::row_rules))]
 
 mod alu;
 mod bit;
-mod condition;
 mod decimal;
 mod exchange;
-mod extend;
-mod flag;
 pub mod laws;
-mod moves;
 mod multiply;
 mod rows;
 mod shift;
 mod sized;
-mod source;
 #[cfg(test)]
 mod tests;
 mod unary;

@@ -10,12 +10,8 @@ ghost use Rattle.xe_arith.specs.Rows.{is_row, row_of};
 
 use crate::alu::{alu, cmp, test};
 use crate::bit::{bt, change_bit, scan};
-use crate::condition::{cmov, set};
 use crate::decimal::decimal;
 use crate::exchange::{cmpxchg, cmpxchg8b, xadd};
-use crate::extend::{cbw, cwd, movsx, movzx};
-use crate::flag::{clc, cmc, direction, lahf, sahf, stc};
-use crate::moves::{bswap, lea, mov, nop, xchg, xlat};
 use crate::multiply::{div, imul, mul};
 use crate::shift::{double_shift, shift};
 use crate::unary::unary;
@@ -30,10 +26,6 @@ pub fn is_row(row: Row) -> bool
     ensures { result ≡ is_row row }
 {
     match row {
-        Row::Mov => true,
-        Row::Lea => true,
-        Row::Xchg => true,
-        Row::Nop => true,
         Row::Add => true,
         Row::Or => true,
         Row::Adc => true,
@@ -47,15 +39,6 @@ pub fn is_row(row: Row) -> bool
         Row::Dec => true,
         Row::Not => true,
         Row::Neg => true,
-        Row::Cmc => true,
-        Row::Clc => true,
-        Row::Stc => true,
-        Row::Cld => true,
-        Row::Std => true,
-        Row::Sahf => true,
-        Row::Lahf => true,
-        Row::Cmov => true,
-        Row::Set => true,
         Row::Rol => true,
         Row::Ror => true,
         Row::Rcl => true,
@@ -65,13 +48,6 @@ pub fn is_row(row: Row) -> bool
         Row::Sar => true,
         Row::Shld => true,
         Row::Shrd => true,
-        Row::Cbw => true,
-        Row::Cwd => true,
-        Row::Movzx => true,
-        Row::Movsx => true,
-        Row::Movsxd => true,
-        Row::Xlat => true,
-        Row::Bswap => true,
         Row::Mul => true,
         Row::Imul => true,
         Row::Div => true,
@@ -107,10 +83,6 @@ fn run_row<B: Bus, I: Intercepts>(
     ensures { Finishes B.sight I.hits (row_of insn.now (cpu_of ctx.old)) ctx.old result cpu.new ctx.new }
 {
     match insn.row {
-        Row::Mov => mov(insn, ctx, cpu),
-        Row::Lea => lea(insn, ctx, cpu),
-        Row::Xchg => xchg(insn, ctx, cpu),
-        Row::Nop => nop(insn, ctx, cpu),
         Row::Add => alu(AluOp::Add, insn, ctx, cpu),
         Row::Or => alu(AluOp::Or, insn, ctx, cpu),
         Row::Adc => alu(AluOp::Adc, insn, ctx, cpu),
@@ -124,15 +96,6 @@ fn run_row<B: Bus, I: Intercepts>(
         Row::Dec => unary(UnOp::Dec, insn, ctx, cpu),
         Row::Not => unary(UnOp::Not, insn, ctx, cpu),
         Row::Neg => unary(UnOp::Neg, insn, ctx, cpu),
-        Row::Cmc => cmc(insn, ctx, cpu),
-        Row::Clc => clc(insn, ctx, cpu),
-        Row::Stc => stc(insn, ctx, cpu),
-        Row::Cld => direction(false, insn, ctx, cpu),
-        Row::Std => direction(true, insn, ctx, cpu),
-        Row::Sahf => sahf(insn, ctx, cpu),
-        Row::Lahf => lahf(insn, ctx, cpu),
-        Row::Cmov => cmov(insn, ctx, cpu),
-        Row::Set => set(insn, ctx, cpu),
         Row::Rol => shift(ShiftOp::Rol, insn, ctx, cpu),
         Row::Ror => shift(ShiftOp::Ror, insn, ctx, cpu),
         Row::Rcl => shift(ShiftOp::Rcl, insn, ctx, cpu),
@@ -142,13 +105,6 @@ fn run_row<B: Bus, I: Intercepts>(
         Row::Sar => shift(ShiftOp::Sar, insn, ctx, cpu),
         Row::Shld => double_shift(true, insn, ctx, cpu),
         Row::Shrd => double_shift(false, insn, ctx, cpu),
-        Row::Cbw => cbw(insn, ctx, cpu),
-        Row::Cwd => cwd(insn, ctx, cpu),
-        Row::Movzx => movzx(insn, ctx, cpu),
-        Row::Movsx => movsx(insn, ctx, cpu),
-        Row::Movsxd => movsx(insn, ctx, cpu),
-        Row::Xlat => xlat(insn, ctx, cpu),
-        Row::Bswap => bswap(insn, ctx, cpu),
         Row::Mul => mul(false, insn, ctx, cpu),
         Row::Imul => imul(insn, ctx, cpu),
         Row::Div => div(false, insn, ctx, cpu),

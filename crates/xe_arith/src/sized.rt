@@ -11,7 +11,7 @@ ghost use Rattle.xe_flags.specs.Products.{low_half, high_half, mul_flags};
 ghost use Rattle.xe_flags.specs.Quotients.{divided};
 ghost use Rattle.xe_flags.specs.Scans.{scan_found, scan_flags};
 ghost use Rattle.xe_flags.specs.Shifts.{shift_word, shift_flags};
-ghost use Rattle.xe_arith.specs.Sized.{low};
+ghost use Rattle.xe_move.specs.Sized.{low};
 
 use xe_base::Word;
 use xe_flags::{

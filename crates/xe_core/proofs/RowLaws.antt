@@ -11,6 +11,9 @@ use Rattle.xe_ctx.specs.Operand.{IsOf}
 use Rattle.xe_ctx.specs.Tree.{Tree, fault}
 use Rattle.xe_ctx.specs.declared.stop.Finish.{Finish}
 use Rattle.xe_ctx.proofs.BoundLaws.{takes_more}
+use Rattle.xe_move.specs.Rows as moves
+use Rattle.xe_move.proofs.CalmRows as move_rows
+use Rattle.xe_move.proofs.BoundRows as move_bounds
 use Rattle.xe_arith.specs.Rows as arith
 use Rattle.xe_arith.proofs.CalmRows as arith_rows
 use Rattle.xe_arith.proofs.BoundRows as arith_bounds
@@ -167,18 +170,19 @@ one_owner row.Xadd = refl
 one_owner row.Cmpxchg8b = refl
 one_owner row.Bswap = refl
 
-none-of : (a b c d e f : Bool) → how_many (a ∷ b ∷ c ∷ d ∷ e ∷ f ∷ []) ≡ 1 → a ≡ false → b ≡ false → c ≡ false → d ≡ false → e ≡ false → f ≡ false → ⊥
-none-of true b c d e f h t u v w x y = cc
-none-of false true c d e f h t u v w x y = cc
-none-of false false true d e f h t u v w x y = cc
-none-of false false false true e f h t u v w x y = cc
-none-of false false false false true f h t u v w x y = cc
-none-of false false false false false true h t u v w x y = cc
-none-of false false false false false false h t u v w x y = omega arith
+none-of : (a b c d e f g : Bool) → how_many (a ∷ b ∷ c ∷ d ∷ e ∷ f ∷ g ∷ []) ≡ 1 → a ≡ false → b ≡ false → c ≡ false → d ≡ false → e ≡ false → f ≡ false → g ≡ false → ⊥
+none-of true b c d e f g h t u v w x y z = cc
+none-of false true c d e f g h t u v w x y z = cc
+none-of false false true d e f g h t u v w x y z = cc
+none-of false false false true e f g h t u v w x y z = cc
+none-of false false false false true f g h t u v w x y z = cc
+none-of false false false false false true g h t u v w x y z = cc
+none-of false false false false false false true h t u v w x y z = cc
+none-of false false false false false false false h t u v w x y z = omega arith
 
 -- so one that is of none isn't there
-pub some_owner : (r : Row) → arith.is_row r ≡ false → flow.is_row r ≡ false → string.is_row r ≡ false → desc.is_row r ≡ false → far.is_row r ≡ false → sys.is_row r ≡ false → ⊥
-some_owner r t u v w x y = none-of (arith.is_row r) (flow.is_row r) (string.is_row r) (desc.is_row r) (far.is_row r) (sys.is_row r) (one_owner r) t u v w x y
+pub some_owner : (r : Row) → moves.is_row r ≡ false → arith.is_row r ≡ false → flow.is_row r ≡ false → string.is_row r ≡ false → desc.is_row r ≡ false → far.is_row r ≡ false → sys.is_row r ≡ false → ⊥
+some_owner r t u v w x y z = none-of (moves.is_row r) (arith.is_row r) (flow.is_row r) (string.is_row r) (desc.is_row r) (far.is_row r) (sys.is_row r) (one_owner r) t u v w x y z
 
 -- a choice of which each way has a property
 one : (P : Tree Finish → Type 0) (choice : Bool) (s t : Tree Finish) → (choice ≡ true → P s) → P t → P (if choice then s else t)
@@ -187,11 +191,12 @@ one P false s t x y = y
 
 -- the table, of which the rows of each crate have a property
 module _ (P : Tree Finish → Type 0) (nothing : P (fault (plain_exception invalid_opcode))) (insn : Insn) (cpu : Cpu) where
-  all : (arith.is_row insn.row ≡ true → P (arith.row_of insn cpu)) → (flow.is_row insn.row ≡ true → P (flow.row_of insn cpu)) → (string.is_row insn.row ≡ true → P (string.row_of insn cpu)) → (desc.is_row insn.row ≡ true → P (desc.row_of insn cpu)) → (far.is_row insn.row ≡ true → P (far.row_of insn cpu)) → (sys.is_row insn.row ≡ true → P (sys.row_of insn cpu)) → P (table insn cpu)
-  all a b c d e f = one P (arith.is_row insn.row) _ _ a (one P (flow.is_row insn.row) _ _ b (one P (string.is_row insn.row) _ _ c (one P (desc.is_row insn.row) _ _ d (one P (far.is_row insn.row) _ _ e (one P (sys.is_row insn.row) _ _ f nothing)))))
+  all : (moves.is_row insn.row ≡ true → P (moves.row_of insn cpu)) → (arith.is_row insn.row ≡ true → P (arith.row_of insn cpu)) → (flow.is_row insn.row ≡ true → P (flow.row_of insn cpu)) → (string.is_row insn.row ≡ true → P (string.row_of insn cpu)) → (desc.is_row insn.row ≡ true → P (desc.row_of insn cpu)) → (far.is_row insn.row ≡ true → P (far.row_of insn cpu)) → (sys.is_row insn.row ≡ true → P (sys.row_of insn cpu)) → P (table insn cpu)
+  all a b c d e f g = one P (moves.is_row insn.row) _ _ a (one P (arith.is_row insn.row) _ _ b (one P (flow.is_row insn.row) _ _ c (one P (string.is_row insn.row) _ _ d (one P (desc.is_row insn.row) _ _ e (one P (far.is_row insn.row) _ _ f (one P (sys.is_row insn.row) _ _ g nothing))))))
 
 pub sound_table : (insn : Insn) (cpu : Cpu) → IsOf cpu insn → Valid cpu → EachGives IsSound (table insn cpu)
 sound_table insn cpu of_ h = all (EachGives IsSound) tt insn cpu
+    (λ e. move_rows.rows_sound insn cpu e of_ h)
     (λ e. arith_rows.rows_sound insn cpu e of_ h)
     (λ e. flow_rows.rows_sound insn cpu e of_ h)
     (λ e. string_rows.rows_sound insn cpu e of_ h)
@@ -201,6 +206,7 @@ sound_table insn cpu of_ h = all (EachGives IsSound) tt insn cpu
 
 pub few_table : (insn : Insn) (cpu : Cpu) → IsOf cpu insn → TakesAtMost 64 256 1014 (table insn cpu)
 few_table insn cpu of_ = all (TakesAtMost 64 256 1014) tt insn cpu
+    (λ e. takes_more 64 64 10 256 36 1014 (omega arith) (omega arith) (omega arith) (moves.row_of insn cpu) (move_bounds.rows_take_little insn cpu of_))
     (λ e. takes_more 64 64 12 256 38 1014 (omega arith) (omega arith) (omega arith) (arith.row_of insn cpu) (arith_bounds.rows_take_little insn cpu of_))
     (λ e. flow_bounds.rows_take_little insn cpu of_)
     (λ e. takes_more 64 64 9 256 48 1014 (omega arith) (omega arith) (omega arith) (string.row_of insn cpu) (string_bounds.rows_take_little insn cpu of_))

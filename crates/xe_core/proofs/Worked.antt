@@ -22,7 +22,7 @@ use Rattle.xe_core.specs.Step.{step}
 use Rattle.xe_core.specs.Turn.{turn_of}
 use Rattle.xe_ctx.specs.Tape.{ask as reply}
 use Rattle.xe_ctx.specs.Tree.{◌>>=◌, device, point}
-use Rattle.xe_arith.specs.Source.{read_source}
+use Rattle.xe_move.specs.Source.{read_source}
 use Rattle.xe_core.specs.Worked.{WorkedSteps}
 
 pub worked_steps : WorkedSteps

@@ -1,6 +1,7 @@
 use Rattle.std.specs.Prelude.{ℕ, ◌+◌, List, [], ◌∷◌, Bool, if◌then◌else◌}
 use Rattle.xe_base.specs.Exceptions.{plain_exception, invalid_opcode}
 use Rattle.xe_opmap.specs.declared.row.Row.{Row}
+use Rattle.xe_move.specs.Rows as moves
 use Rattle.xe_arith.specs.Rows as arith
 use Rattle.xe_flow.specs.Rows as flow
 use Rattle.xe_string.specs.Rows as string
@@ -15,18 +16,20 @@ use Rattle.xe_core.specs.Step.{Table}
 -- what an instruction asks for, by the crate that has its row
 abbrev pub table : Table
 table insn cpu =
-    if arith.is_row insn.row then arith.row_of insn cpu else
+    if moves.is_row insn.row then moves.row_of insn cpu else
+    (if arith.is_row insn.row then arith.row_of insn cpu else
     (if flow.is_row insn.row then flow.row_of insn cpu else
     (if string.is_row insn.row then string.row_of insn cpu else
     (if desc.is_row insn.row then desc.row_of insn cpu else
     (if far.is_row insn.row then far.row_of insn cpu else
     (if sys.is_row insn.row then sys.row_of insn cpu else
-    fault (plain_exception invalid_opcode))))))
+    fault (plain_exception invalid_opcode)))))))
 
 -- which crates have a row
 abbrev pub owners : Row → List Bool
 owners row =
-    arith.is_row row
+    moves.is_row row
+    ∷ arith.is_row row
     ∷ flow.is_row row
     ∷ string.is_row row
     ∷ desc.is_row row

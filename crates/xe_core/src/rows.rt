@@ -19,6 +19,9 @@ pub(crate) fn exec<B: Bus, I: Intercepts>(
     requires { IsReady B.sight insn.now ctx.old cpu.old 256 1014 }
     ensures { Finishes B.sight I.hits (table insn.now (cpu_of ctx.old)) ctx.old result cpu.new ctx.new }
 {
+    if xe_move::is_row(insn.row) {
+        return xe_move::exec_into(insn, ctx, cpu);
+    }
     if xe_arith::is_row(insn.row) {
         return xe_arith::exec_into(insn, ctx, cpu);
     }

@@ -3,8 +3,8 @@ use Rattle.xe_base.specs.declared.cpu.Cpu.{Cpu}
 use Rattle.xe_opmap.specs.declared.insn.Insn.{Insn}
 use Rattle.xe_ctx.specs.Tree.{Tree, give}
 use Rattle.xe_ctx.specs.Operand.{IsOperand, read_operand}
-use Rattle.xe_arith.specs.declared.source.Source.{Source}
-use Rattle.xe_arith.specs.declared.source.Source.TheVariants.{Number, Place}
+use Rattle.xe_move.specs.declared.source.Source.{Source}
+use Rattle.xe_move.specs.declared.source.Source.TheVariants.{Number, Place}
 
 -- the number that is read from a source of n bytes: an immediate as it stands, or an operand
 unfoldable pub read_source : Insn → Cpu → Source → ℕ → Tree ℕ

@@ -3,7 +3,7 @@
 ghost use Rattle.std.specs.Prelude.{◌≡◌, if◌then◌else◌};
 ghost use Rattle.xe_ctx.specs.Contract.{ℕ, IsOf, IsReady, Finishes, cpu_of};
 ghost use Rattle.xe_ctx.specs.Operand.{reads, reg_of};
-ghost use Rattle.xe_arith.specs.Condition.{holds, cmov_row, set_row};
+ghost use Rattle.xe_move.specs.Condition.{holds, cmov_row, set_row};
 
 use xe_base::Cpu;
 use xe_ctx::operand::{

@@ -3,8 +3,8 @@
 ghost use Rattle.std.specs.Prelude.{◌≡◌, ◌<◌};
 ghost use Rattle.xe_ctx.specs.Contract.{ℕ, IsTrue, is_size, IsOf, IsOperand, IsReady, Finishes, cpu_of};
 ghost use Rattle.xe_opmap.specs.Encoding.{IsSize};
-ghost use Rattle.xe_arith.specs.Moves.{is_to_e, is_to_g, is_from_address, is_to_address, is_to_named_register, names_byte_register, move_size, at_address, move_target, move_source, mov_row, offset_of, lea_row, is_with_g, exchange_size, exchange_partner, xchg_row, nop_row, table_byte, xlat_row, reversed, bswap_row};
-ghost use Rattle.xe_arith.specs.Source.{IsSource};
+ghost use Rattle.xe_move.specs.Moves.{is_to_e, is_to_g, is_from_address, is_to_address, is_to_named_register, names_byte_register, move_size, at_address, move_target, move_source, mov_row, offset_of, lea_row, is_with_g, exchange_size, exchange_partner, xchg_row, nop_row, table_byte, xlat_row, reversed, bswap_row};
+ghost use Rattle.xe_move.specs.Source.{IsSource};
 
 use crate::source::{Source, read_source};
 use xe_base::{Cpu, SegName};

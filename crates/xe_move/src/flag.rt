@@ -2,7 +2,7 @@
 
 ghost use Rattle.std.specs.Prelude.{◌≡◌};
 ghost use Rattle.xe_ctx.specs.Contract.{ℕ, IsReady, Finishes, cpu_of};
-ghost use Rattle.xe_arith.specs.Flag.{with_carry, cmc_row, clc_row, stc_row, with_direction, direction_row, high_byte_of_ax, sahf_row, lahf_row};
+ghost use Rattle.xe_move.specs.Flag.{with_carry, cmc_row, clc_row, stc_row, with_direction, direction_row, high_byte_of_ax, sahf_row, lahf_row};
 
 use xe_base::Cpu;
 use xe_ctx::operand::{AH, done};

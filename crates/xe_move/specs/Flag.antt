@@ -3,7 +3,7 @@ use Rattle.xe_ctx.specs.Definition.{ℕ, Bool, true, false, not, Cpu, Insn, Tree
 use Rattle.xe_base.specs.Registers.{register_value, with_register}
 use Rattle.xe_flags.specs.Status.{at_place, status_of, with_status}
 use Rattle.xe_ctx.specs.declared.stop.Finish.{Finish}
-use Rattle.xe_arith.specs.Sized.{with_flags}
+use Rattle.xe_move.specs.Sized.{with_flags}
 
 -- Flags by themselves (SDM volume 2, "CMC", "CLC", "STC", "CLD", "STD", "SAHF" and "LAHF").
 

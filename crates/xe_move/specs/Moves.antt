@@ -6,10 +6,10 @@ use Rattle.xe_modrm.specs.Address.{or_segment}
 use Rattle.xe_ctx.specs.declared.operand.Operand.{Operand}
 use Rattle.xe_ctx.specs.declared.operand.Operand.TheVariants.{Register, Memory}
 use Rattle.xe_ctx.specs.declared.stop.Finish.{Finish}
-use Rattle.xe_arith.specs.Sized.{low}
-use Rattle.xe_arith.specs.Source.{read_source}
-use Rattle.xe_arith.specs.declared.source.Source.{Source}
-use Rattle.xe_arith.specs.declared.source.Source.TheVariants.{Number, Place}
+use Rattle.xe_move.specs.Sized.{low}
+use Rattle.xe_move.specs.Source.{read_source}
+use Rattle.xe_move.specs.declared.source.Source.{Source}
+use Rattle.xe_move.specs.declared.source.Source.TheVariants.{Number, Place}
 
 -- ---- MOV (SDM volume 2, "MOV—Move")
 

@@ -1,7 +1,7 @@
 //! Where an instruction takes a number from.
 
 ghost use Rattle.xe_ctx.specs.Contract.{ℕ, IsTrue, is_size, HasLeft, RunsWithin, cpu_of};
-ghost use Rattle.xe_arith.specs.Source.{read_source, IsSource};
+ghost use Rattle.xe_move.specs.Source.{read_source, IsSource};
 
 use xe_ctx::operand::{Operand, read_operand};
 use xe_ctx::{Bus, Ctx, Stop};

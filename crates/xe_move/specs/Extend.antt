@@ -2,7 +2,7 @@ use Rattle.std.specs.Prelude.{◌-◌, ◌*◌, ◌/◌, ◌%◌, ◌^◌, ◌==
 use Rattle.xe_ctx.specs.Definition.{ℕ, Bool, Cpu, Insn, Tree, ◌>>=◌, ax, dx, operand_of, reg_of, reads, writes, read_operand, ends}
 use Rattle.xe_base.specs.Words.{signed, wrapped, top}
 use Rattle.xe_ctx.specs.declared.stop.Finish.{Finish}
-use Rattle.xe_arith.specs.Sized.{low}
+use Rattle.xe_move.specs.Sized.{low}
 
 -- Numbers made wider (SDM volume 2, "CBW/CWDE/CDQE", "CWD/CDQ/CQO", "MOVZX", "MOVSX/MOVSXD").
 

@@ -3,7 +3,7 @@
 ghost use Rattle.std.specs.Prelude.{◌≡◌, ◌/◌, ◌%◌, ◌^◌};
 ghost use Rattle.xe_ctx.specs.Contract.{ℕ, IsTrue, is_size, IsOf, IsReady, Finishes, cpu_of};
 ghost use Rattle.xe_base.specs.Words.{IsWidth, signed, wrapped};
-ghost use Rattle.xe_arith.specs.Extend.{sign_extended, cbw_row, sign_fill, cwd_row, is_movsxd, is_from_byte, narrow_size, movzx_row, movsx_row};
+ghost use Rattle.xe_move.specs.Extend.{sign_extended, cbw_row, sign_fill, cwd_row, is_movsxd, is_from_byte, narrow_size, movzx_row, movsx_row};
 
 use xe_base::{Cpu, Word};
 use xe_ctx::operand::{

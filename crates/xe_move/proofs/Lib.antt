@@ -1,0 +1,3 @@
+pub mod CalmRows
+pub mod BoundRows
+pub mod TestLaws
