@@ -10,8 +10,8 @@ ghost use Rattle.xe_ctx.specs.Operand.{IsOf};
 ghost use Rattle.xe_sys.specs.Rows.{is_row, row_of, is_calm, EndsCalmly, is_privileged, IsRefused};
 
 /// Each instruction that finishes of IN, OUT, HLT, PAUSE, SGDT, SIDT, SMSW, INVLPG, INVD, WBINVD, RDTSC, RDMSR and
-/// CPUID has changed general registers and the instruction pointer alone, whatever memory and devices
-/// answer. The next instruction is the one behind it, none of it is left to be done, and the retirement
+/// CPUID has changed general registers, flags and the instruction pointer at most, whatever memory
+/// and devices answer. The next instruction is the one behind it, none of it is left to be done, and the retirement
 /// of HLT alone brings something with it, that the processor halts.
 #[tactic(auto, using(crate::proofs::CalmRows::rows_calm))]
 pub fn rows_change_states_calmly()
