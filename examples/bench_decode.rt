@@ -1,27 +1,3 @@
-#!/usr/bin/env bash
-# Decodes a million instructions and prints how many it decodes in a second.
-#
-# The benchmark is no part of the gate: this script makes a copy of the crates in a temporary folder,
-# adds a program to it, builds that with rt and runs it. Pass a number of instructions to change it.
-set -euo pipefail
-
-count=${1:-1000000}
-root=$(cd "$(dirname "$0")/.." && pwd)
-copy=$(mktemp -d)
-trap 'rm -rf "$copy"' EXIT
-
-mkdir "$copy/crates"
-for crate in xe_base xe_modrm xe_opmap; do
-    (cd "$root/crates" && tar cf - --exclude="$crate/out" "$crate") | tar xf - -C "$copy/crates"
-done
-mkdir -p "$copy/crates/bench_decode/src"
-cat > "$copy/crates.txt" <<'CRATES'
-xe_base:
-xe_modrm: xe_base
-xe_opmap: xe_base xe_modrm
-bench_decode: xe_base xe_modrm xe_opmap
-CRATES
-cat > "$copy/crates/bench_decode/src/main.rt" <<PROGRAM
 #![tactic(auto)]
 
 use std::io;
@@ -49,7 +25,7 @@ fn length(decoded: Decoded) -> u8 {
 }
 
 fn main(rt: HostRuntime) -> io::Result<()> {
-    let count: u32 = $count;
+    let count: u32 = 1_000_000;
     let start = Instant::now(&rt)?;
     let mut bytes: u64 = 0;
     for i in 0..count {
@@ -60,6 +36,3 @@ fn main(rt: HostRuntime) -> io::Result<()> {
     println!(rt; "{count} instructions, {bytes} bytes, {micros} microseconds: {rate} instructions a second")?;
     Ok(())
 }
-PROGRAM
-cd "$copy/crates/bench_decode"
-rt run
