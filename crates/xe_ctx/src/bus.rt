@@ -3,7 +3,7 @@
 use xe_base::{Access, Answer};
 
 /// What a bus says to an access.
-#[derive(Clone, Copy, Drop, PartialEq, Eq, Debug)]
+#[derive(Clone, Copy, PartialEq, Eq, Debug)]
 pub enum Reply {
     /// The access was made, with this answer: a number below 2^(8 * size) of the access; or that there
     /// is no such register, in the space `Msr` alone.

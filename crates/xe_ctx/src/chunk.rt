@@ -9,7 +9,7 @@ use arrayvec::ArrayVec;
 
 /// A part of an access that goes to a device as one: its physical address, its place in the access
 /// and its size.
-#[derive(Clone, Copy, Drop, PartialEq, Eq, Debug, Default)]
+#[derive(Clone, Copy, PartialEq, Eq, Debug, Default)]
 pub(crate) struct Chunk {
     pub pa: u64,
     pub at: usize,

@@ -31,7 +31,7 @@ fn fetch_kind() -> Kind
 }
 
 /// Bytes that lie one behind another: the physical address of the first, and how many.
-#[derive(Clone, Copy, Drop)]
+#[derive(Clone, Copy)]
 struct Run {
     pa: u64,
     n: u64,

@@ -33,7 +33,7 @@ pub struct Machine {
 }
 
 /// A byte that was named isn't RAM.
-#[derive(Clone, Copy, Drop, PartialEq, Eq, Debug)]
+#[derive(Clone, Copy, PartialEq, Eq, Debug)]
 pub struct NotRam {
     /// The first such address.
     pub pa: u64,

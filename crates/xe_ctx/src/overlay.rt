@@ -10,7 +10,7 @@ use arrayvec::ArrayVec;
 use xe_mem::GuestMem;
 
 /// A byte that the step has changed.
-#[derive(Clone, Copy, Drop, PartialEq, Eq, Debug, Default)]
+#[derive(Clone, Copy, PartialEq, Eq, Debug, Default)]
 pub(crate) struct Cell {
     pub at: u64,
     pub byte: u8,

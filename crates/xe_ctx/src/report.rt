@@ -7,7 +7,7 @@ use xe_icpt::Exit;
 use xe_opmap::Row;
 
 /// How a call ended. But for `Done` the machine is as before the last step.
-#[derive(Clone, Copy, Drop, PartialEq, Eq, Debug)]
+#[derive(Clone, Copy, PartialEq, Eq, Debug)]
 pub enum Outcome {
     /// Its last step finished. `more`: RIP stays on the instruction, of which elements are left.
     /// `retire`: 1 STI turned IF from 0 to 1, 2 it was MOV SS or POP SS, 4 the processor halts, 8 TF

@@ -4,7 +4,7 @@ use xe_base::{Access, Cpu, Fault};
 use xe_icpt::Exit;
 
 /// The instruction that raises a software interrupt.
-#[derive(Clone, Copy, Drop, PartialEq, Eq, Debug)]
+#[derive(Clone, Copy, PartialEq, Eq, Debug)]
 pub enum EventKind {
     /// INT n.
     Int,
@@ -15,7 +15,7 @@ pub enum EventKind {
 }
 
 /// A software interrupt, which the caller is to deliver (SDM volume 2, INT n/INTO/INT3).
-#[derive(Clone, Copy, Drop, PartialEq, Eq, Debug)]
+#[derive(Clone, Copy, PartialEq, Eq, Debug)]
 pub struct Event {
     pub kind: EventKind,
     pub vector: u8,
@@ -24,7 +24,7 @@ pub struct Event {
 }
 
 /// What the emulator leaves to its caller. The machine is as before the step.
-#[derive(Clone, Copy, Drop, PartialEq, Eq, Debug)]
+#[derive(Clone, Copy, PartialEq, Eq, Debug)]
 pub enum Handoff {
     /// A far transfer through a call gate; the selector of the instruction.
     CallGate(u16),
@@ -44,7 +44,7 @@ pub enum Handoff {
 
 /// The record belongs to another step: at this place, counted from 0 in the order of the step's
 /// accesses, it has one access, and the step asks for another, or has ended.
-#[derive(Clone, Copy, Drop, PartialEq, Eq, Debug)]
+#[derive(Clone, Copy, PartialEq, Eq, Debug)]
 pub struct Diverged {
     pub at: u16,
     /// The access that the record has there: of a kept answer, or asked.
@@ -54,7 +54,7 @@ pub struct Diverged {
 }
 
 /// How a step can end without finishing. The machine is as before the step.
-#[derive(Clone, Copy, Drop, PartialEq, Eq, Debug)]
+#[derive(Clone, Copy, PartialEq, Eq, Debug)]
 pub enum Stop {
     /// A device isn't ready yet: the access that it was asked for.
     Pending(Access),
@@ -73,7 +73,7 @@ pub enum Stop {
 }
 
 /// The end of an instruction that finished, or of one element of a repeated one.
-#[derive(Clone, Copy, Drop, PartialEq, Eq, Debug)]
+#[derive(Clone, Copy, PartialEq, Eq, Debug)]
 pub struct Finish {
     /// The registers then.
     pub cpu: Cpu,
@@ -94,7 +94,7 @@ pub struct End {
 }
 
 /// How the work of an instruction ended.
-#[derive(Clone, Copy, Drop, PartialEq, Eq, Debug)]
+#[derive(Clone, Copy, PartialEq, Eq, Debug)]
 pub enum Flow {
     /// It finished, as a [`Finish`] says.
     Finish { cpu: Cpu, more: bool, retire: u8 },

@@ -15,7 +15,7 @@ macro_rules! group_1 {
     };
 }
 
-/// Group 2, C0, C1 and D0 to D3, with its immediate where it has one.
+/// Group 2, opcodes C0, C1 and D0 to D3, with its immediate where it has one.
 macro_rules! group_2 {
     ($($imm:ident)?) => {
         group_row![(Rol E $($imm)?) (Ror E $($imm)?) (Rcl E $($imm)?) (Rcr E $($imm)?) (Shl E $($imm)?) (Shr E $($imm)?) (Shl E $($imm)?) (Sar E $($imm)?)]
@@ -76,8 +76,8 @@ pub static GROUPS: [[OpcodeCell; 8]; 16] = [
     group_1!(ib_signed), // 83
     // group 1A: 8F
     group_row![(Pop E d64) (-) (-) (-) (-) (-) (-) (-)],
-    group_2!(), // D0 to D3
-    group_2!(ib), // C0, C1
+    group_2!(), // opcodes D0 to D3
+    group_2!(ib), // opcodes C0 and C1
     group_3!(ib), // F6
     group_3!(iz), // F7
     // group 4: FE

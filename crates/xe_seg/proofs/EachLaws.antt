@@ -19,6 +19,10 @@ each_is b n test to from = same_from_decides b (each n test) (to, from) (each_de
 pub each_alike : (n : ℕ) (f g : ℕ → Bool) → ((k : ℕ) → f k ≡ g k) → each n f ≡ each n g
 each_alike n f g same = each_is (each n f) n g (λ h k l. sym (same k) ∙ each_at n f k h l) (λ h. (each_decides n f).1 (λ k l. same k ∙ h k l))
 
+-- none is left out where there are none
+pub each_of_none : (n : ℕ) (test : ℕ → Bool) → n ≡ 0 → true ≡ each n test
+each_of_none n test none = each_is true n test (λ _ k l. absurd (omega arith)) (λ _. refl)
+
 -- ---- limits
 
 below_all : (h offset n k : ℕ) → offset ≤ h → nat_le (n - 1) (h - offset) ≡ true → k < n → nat_le (offset + k) h ≡ true

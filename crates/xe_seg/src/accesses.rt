@@ -60,23 +60,26 @@ pub fn protection_fault(cpu: &Cpu) -> Fault
 
 /// Whether each of the `n` bytes lies at or below the highest offset. No sum can pass 64 bits.
 fn ends_by(highest: u64, offset: u64, n: u32) -> bool
-    requires { 0 < n }
     ensures { result ≡ each n (λ i. nat_le (offset + i) highest) }
 {
+    if n == 0 {
+        return true;
+    }
     offset <= highest && (n - 1) as u64 <= highest - offset
 }
 
 /// Whether each of the `n` bytes lies above the limit, and at or below the highest offset.
 fn lies_between(limit: u64, highest: u64, offset: u64, n: u32) -> bool
-    requires { 0 < n }
     ensures { result ≡ each n (λ i. nat_lt limit (offset + i) && nat_le (offset + i) highest) }
 {
+    if n == 0 {
+        return true;
+    }
     limit < offset && ends_by(highest, offset, n)
 }
 
 /// Whether each of the `n` bytes lies in the segment.
 fn is_inside(s: &Seg, offset: u64, n: u32) -> bool
-    requires { 0 < n }
     ensures { result ≡ each n (λ i. is_inside s.now (offset + i)) }
 {
     let limit = s.limit as u64;
@@ -92,7 +95,6 @@ fn is_inside(s: &Seg, offset: u64, n: u32) -> bool
 
 /// The check in real mode: the limit alone.
 fn real_access(cpu: &Cpu, seg: SegName, offset: u64, n: u32) -> Result<u64, Fault>
-    requires { 0 < n }
     ensures { result ≡ real_access cpu.now seg offset n }
 {
     if !ends_by(cpu.segment(seg).limit as u64, offset, n) {
@@ -103,7 +105,6 @@ fn real_access(cpu: &Cpu, seg: SegName, offset: u64, n: u32) -> Result<u64, Faul
 
 /// The check in protected and compatibility mode: present, then the type, then the limit.
 fn protected_access(cpu: &Cpu, seg: SegName, offset: u64, n: u32, write: bool) -> Result<u64, Fault>
-    requires { 0 < n }
     ensures { result ≡ protected_access cpu.now seg offset n write }
 {
     let s = cpu.segment(seg);
@@ -122,17 +123,18 @@ fn protected_access(cpu: &Cpu, seg: SegName, offset: u64, n: u32, write: bool) -
 /// Whether each of the `n` bytes from an address on has a canonical one. The addresses that aren't
 /// canonical are more than there are bytes, so it is enough to look at the first byte and the last.
 fn are_canonical(cpu: &Cpu, first: u64, n: u32) -> bool
-    requires { 0 < n }
     ensures { result ≡ each n (λ i. is_canonical cpu.now ((first + i) % 2 ^ 64)) }
 {
+    if n == 0 {
+        return true;
+    }
     let last = first.wrapping_add((n - 1) as u64);
     cpu.is_canonical(first) && cpu.is_canonical(last)
 }
 
 /// The check in 64-bit mode: each byte's address is canonical.
 fn long_access(cpu: &Cpu, seg: SegName, offset: u64, n: u32) -> Result<u64, Fault>
-    requires long { is_long cpu.now ≡ true }
-    requires some { 0 < n }
+    requires { is_long cpu.now ≡ true }
     ensures is { result ≡ long_access cpu.now seg offset n }
     ensures canonical { IfOk result (λ la. (i : ℕ) → i < n → is_canonical cpu.now ((la + i) % 2 ^ 64) ≡ true) }
 {
@@ -152,9 +154,10 @@ fn long_access(cpu: &Cpu, seg: SegName, offset: u64, n: u32) -> Result<u64, Faul
 ///   #GP(0) for the others. S isn't looked at.
 /// - In real mode each byte's offset is at most the limit, else #SS for SS and #GP for the others, with no code.
 /// - In 64-bit mode each byte's linear address is canonical, else #SS(0) for SS and #GP(0) for the others.
+///
+/// An access of no bytes has none that could lie outside: the segment and its type alone are judged.
 #[tactic(auto, unfolding(crate::specs::Accesses::access))]
 pub fn check_access(cpu: &Cpu, seg: SegName, offset: u64, n: u32, write: bool) -> Result<u64, Fault>
-    requires { 0 < n }
     ensures is { result ≡ access cpu.now seg offset n write }
     // outside 64-bit mode linear addresses have 32 bits
     ensures below { is_long cpu.now ≡ false → IfOk result (λ la. la < 2 ^ 32) }

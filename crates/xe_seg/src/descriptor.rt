@@ -5,7 +5,7 @@ ghost use Rattle.xe_base.specs.Bits.{bit};
 ghost use Rattle.xe_seg.specs.Descriptors.{base_of, units_of, limit_of, kind_of, s_of, dpl_of, present_of, l_of, db_of, g_of, attr_of};
 
 /// A segment descriptor, as it lies in the GDT or an LDT.
-#[derive(Clone, Copy, Drop, PartialEq, Eq, Debug, Default)]
+#[derive(Clone, Copy, PartialEq, Eq, Debug, Default)]
 pub struct Descriptor {
     /// The 8 bytes, the lowest address in the lowest bits.
     pub raw: u64,

@@ -1,7 +1,7 @@
 //! Entries of page tables, and the RAM that tells them.
 
 /// An entry that a walk used.
-#[derive(Clone, Copy, Drop, PartialEq, Eq, Debug, Default)]
+#[derive(Clone, Copy, PartialEq, Eq, Debug, Default)]
 pub struct Used {
     /// Its physical address.
     pub pa: u64,

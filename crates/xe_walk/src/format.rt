@@ -7,7 +7,7 @@ ghost use Rattle.xe_walk.specs.Format.{IsLevel, pse, nxe, pae_format, levels_of,
 use xe_base::Cpu;
 
 /// A level of a paging format: tables whose entries are indexed by some bits of the linear address.
-#[derive(Clone, Copy, Drop, PartialEq, Eq, Debug, Default)]
+#[derive(Clone, Copy, PartialEq, Eq, Debug, Default)]
 pub struct Level {
     /// The lowest bit of the linear address that is in the index. An entry stands for 2^shift bytes.
     pub shift: u32,

@@ -10,7 +10,7 @@ use xe_base::access::PAGE_FAULT;
 use xe_base::{Cpu, Fault};
 
 /// What an access is for. One that is neither a write nor a fetch reads.
-#[derive(Clone, Copy, Drop, PartialEq, Eq, Debug, Default)]
+#[derive(Clone, Copy, PartialEq, Eq, Debug, Default)]
 pub struct Kind {
     pub write: bool,
     pub fetch: bool,
@@ -19,7 +19,7 @@ pub struct Kind {
 }
 
 /// Why a translation is a page fault.
-#[derive(Clone, Copy, Drop, PartialEq, Eq, Debug)]
+#[derive(Clone, Copy, PartialEq, Eq, Debug)]
 pub enum Why {
     /// An entry has P clear.
     NotPresent,

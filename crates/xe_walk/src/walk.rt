@@ -22,7 +22,7 @@ pub struct Hit {
 }
 
 /// Why a linear address has no translation.
-#[derive(Clone, Copy, Drop, PartialEq, Eq, Debug)]
+#[derive(Clone, Copy, PartialEq, Eq, Debug)]
 pub enum WalkStop {
     /// A page fault.
     Page(Fault),
