@@ -9,7 +9,7 @@ use Rattle.xe_move.specs.Sized.{low, with_flags}
 -- Shifts and rotates (SDM volume 2, "RCL/RCR/ROL/ROR", "SAL/SAR/SHL/SHR", "SHLD" and "SHRD"). A count that changes nothing
 -- writes its operand all the same.
 
--- by an immediate byte: C0 and C1. By one: D0 and D1. The others, D2 and D3, are by CL
+-- by an immediate byte: opcodes C0 and C1. By one: opcodes D0 and D1. The others, opcodes D2 and D3, are by CL
 abbrev pub is_by_immediate : ℕ → Bool
 is_by_immediate opcode = nat_lt opcode 0xD0
 
@@ -27,7 +27,7 @@ shift_row op insn cpu = do
   after ← write_operand insn (with_flags cpu (shift_flags (8 * n) op (low n a) count cpu.rflags)) (operand_of insn cpu) n (shift_word (8 * n) op (low n a) count cpu.rflags)
   ends insn after
 
--- a double shift by an immediate byte: 0F A4 and 0F AC. The others, 0F A5 and 0F AD, are by CL
+-- a double shift by an immediate byte: opcodes 0F A4 and 0F AC. The others, opcodes 0F A5 and 0F AD, are by CL
 abbrev pub double_is_by_immediate : ℕ → Bool
 double_is_by_immediate opcode = opcode % 2 == 0
 

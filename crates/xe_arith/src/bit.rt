@@ -1,4 +1,5 @@
 //! Single bits.
+#![tactic(auto, using(xe_ctx::proofs::Trees::row_rules))]
 
 ghost use Rattle.std.specs.Prelude.{unsigned_abs, ◌≡◌, ◌≤◌, ◌^◌, ◌<◌};
 ghost use Rattle.xe_opmap.specs.Encoding.{IsSize};

@@ -1,4 +1,5 @@
 //! Exchanges that compute or compare.
+#![tactic(auto, using(xe_ctx::proofs::Trees::row_rules))]
 
 ghost use Rattle.xe_base.specs.Exceptions.{plain_exception, exception, invalid_opcode, general_protection};
 ghost use Rattle.std.specs.Prelude.{◌≡◌, ◌<◌, ◌*◌, ◌^◌, ◌%◌, ◌/◌, ◌==◌, ◌||◌};

@@ -2,7 +2,7 @@
 //! flags and operands in memory.
 //!
 //! Each row stands beside its definition: that of `alu` in `specs/Alu.antt`, and so on.
-#![tactic(auto, using(xe_ctx::proofs::Trees::row_rules))]
+#![tactic(auto)]
 
 mod alu;
 mod bit;

@@ -1,4 +1,5 @@
 //! Shifts and rotates.
+#![tactic(auto, using(xe_ctx::proofs::Trees::row_rules))]
 
 ghost use Rattle.std.specs.Prelude.{◌≡◌};
 ghost use Rattle.xe_ctx.specs.Contract.{ℕ, IsReady, Finishes, cpu_of};
@@ -15,14 +16,14 @@ use xe_flags::ShiftOp;
 use xe_icpt::Intercepts;
 use xe_opmap::Insn;
 
-/// Whether a shift is by an immediate byte: C0 and C1.
+/// Whether a shift is by an immediate byte: opcodes C0 and C1.
 fn is_by_immediate(opcode: u16) -> bool
     ensures { result ≡ is_by_immediate opcode }
 {
     opcode < 0xD0
 }
 
-/// Whether a shift is by one: D0 and D1.
+/// Whether a shift is by one: opcodes D0 and D1.
 fn is_by_one(opcode: u16) -> bool
     ensures { result ≡ is_by_one opcode }
 {
@@ -70,7 +71,7 @@ pub fn shift<B: Bus, I: Intercepts>(
     Ok(done(insn, cpu))
 }
 
-/// Whether a double shift is by an immediate byte: 0F A4 and 0F AC.
+/// Whether a double shift is by an immediate byte: opcodes 0F A4 and 0F AC.
 fn double_is_by_immediate(opcode: u16) -> bool
     ensures { result ≡ double_is_by_immediate opcode }
 {

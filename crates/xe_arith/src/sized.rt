@@ -1,4 +1,5 @@
 //! The operations on words, at a width that a number of bytes says.
+#![tactic(auto, using(xe_ctx::proofs::Trees::row_rules))]
 
 ghost use Rattle.std.specs.Prelude.{◌≡◌, ℕ, ◌*◌, ◌%◌, ◌^◌, IsTrue};
 ghost use Rattle.xe_base.specs.Registers.{is_size};

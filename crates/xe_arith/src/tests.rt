@@ -1,4 +1,5 @@
 //! Worked examples: a few instructions from their bytes.
+#![tactic(auto, using(xe_ctx::proofs::Trees::row_rules))]
 
 ghost use Rattle.std.specs.Prelude.{◌≤◌, length, None};
 

@@ -1,5 +1,6 @@
 //! The descriptor of a selector: where it lies, its reading, and its accessed bit (SDM volume 3, "Segment
 //! Descriptor Tables").
+#![tactic(auto, using(xe_ctx::proofs::Trees::row_rules))]
 
 ghost use Rattle.std.specs.Prelude.{◌≡◌, ◌<◌, ◌≤◌, ◌^◌};
 ghost use Rattle.xe_ctx.specs.Contract.{HasLeft, RunsWithin, cpu_of};

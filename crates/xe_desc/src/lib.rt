@@ -2,7 +2,7 @@
 //! table that read a descriptor and don't change the flow of control.
 //!
 //! Each row stands beside its definition: that of `load` in `specs/Load.antt`, and so on.
-#![tactic(auto, using(xe_ctx::proofs::Trees::row_rules))]
+#![tactic(auto)]
 
 pub mod descriptor_table;
 pub mod laws;

@@ -1,4 +1,5 @@
 //! Loads of segment registers, and what MOV stores of them.
+#![tactic(auto, using(xe_ctx::proofs::Trees::row_rules))]
 
 ghost use Rattle.std.specs.Prelude.{◌≡◌, ◌≢◌, IfSome, false};
 ghost use Rattle.xe_ctx.specs.Contract.{ℕ, IsTrue, is_size, IsOf, HasLeft, IsReady, Finishes, RunsWithin, DraftsWithin, IsOperand, cpu_of};

@@ -1,4 +1,5 @@
 //! What a program may ask of selectors and their descriptors.
+#![tactic(auto, using(xe_ctx::proofs::Trees::row_rules))]
 
 ghost use Rattle.std.specs.Prelude.{◌≡◌, ◌<◌};
 ghost use Rattle.xe_ctx.specs.Contract.{ℕ, IsTrue, is_size, IsOf, HasLeft, IsReady, Finishes, RunsWithin, DraftsWithin, IsOperand, cpu_of};

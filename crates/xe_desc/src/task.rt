@@ -1,4 +1,5 @@
 //! The LDT and the task register.
+#![tactic(auto, using(xe_ctx::proofs::Trees::row_rules))]
 
 ghost use Rattle.std.specs.Prelude.{◌≡◌, ◌<◌, ◌^◌, ◌%◌, IfOk};
 ghost use Rattle.xe_ctx.specs.Contract.{ℕ, HasLeft, IsReady, Finishes, RunsWithin, DraftsWithin, cpu_of};

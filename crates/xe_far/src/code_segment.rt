@@ -1,4 +1,5 @@
 //! The code segment that a far transfer leads to: its descriptor, and what is asked of it.
+#![tactic(auto, using(xe_ctx::proofs::Trees::row_rules))]
 
 ghost use Rattle.std.specs.Prelude.{◌≡◌, ◌<◌};
 ghost use Rattle.xe_ctx.specs.Contract.{HasLeft, RunsWithin, cpu_of};

@@ -1,7 +1,7 @@
 //! Far calls, jumps and returns: the rows of the instruction table that load CS.
 //!
 //! Each step stands beside its definition: that of `transfer` in `specs/Transfer.antt`, and so on.
-#![tactic(auto, using(xe_ctx::proofs::Trees::row_rules))]
+#![tactic(auto)]
 
 mod code_segment;
 pub mod laws;

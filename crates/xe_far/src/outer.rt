@@ -1,4 +1,5 @@
 //! Far returns that load the stack, and what they leave of the data segments.
+#![tactic(auto, using(xe_ctx::proofs::Trees::row_rules))]
 
 ghost use Rattle.std.specs.Prelude.{◌≡◌, ◌<◌, ◌^◌};
 ghost use Rattle.xe_ctx.specs.Contract.{HasLeft, RunsWithin, DraftsWithin, IsOf, cpu_of};

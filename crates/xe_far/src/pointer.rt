@@ -1,4 +1,5 @@
 //! Far pointers: in an instruction, in memory, and on the stack.
+#![tactic(auto, using(xe_ctx::proofs::Trees::row_rules))]
 
 ghost use Rattle.std.specs.Prelude.{◌≡◌, ◌<◌, ◌+◌, ◌*◌, ◌%◌, ◌^◌};
 ghost use Rattle.xe_ctx.specs.Contract.{IsTrue, is_size, HasLeft, RunsWithin, IsOf, IsOperand, cpu_of};

@@ -1,4 +1,5 @@
 //! Far returns.
+#![tactic(auto, using(xe_ctx::proofs::Trees::row_rules))]
 
 ghost use Rattle.std.specs.Prelude.{◌≡◌, ◌<◌, ◌^◌};
 ghost use Rattle.xe_ctx.specs.Contract.{HasLeft, IsReady, RunsWithin, DraftsWithin, Finishes, IsOf, cpu_of};

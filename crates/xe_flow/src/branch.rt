@@ -1,4 +1,5 @@
 //! Near jumps, calls and returns.
+#![tactic(auto, using(xe_ctx::proofs::Trees::row_rules))]
 
 ghost use Rattle.std.specs.Prelude.{◌≡◌};
 ghost use Rattle.xe_ctx.specs.Contract.{ℕ, false, IsOf, HasLeft, IsReady, RunsWithin, Finishes, cpu_of};

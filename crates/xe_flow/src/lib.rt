@@ -1,7 +1,7 @@
 //! Stack, frames, flags on the stack, near branches, loops and software interrupts.
 //!
 //! Each row stands beside its definition: that of `branch` in `specs/Branch.antt`, and so on.
-#![tactic(auto, using(xe_ctx::proofs::Trees::row_rules))]
+#![tactic(auto)]
 
 mod branch;
 pub mod flags;

@@ -1,4 +1,5 @@
 //! Jumps that count.
+#![tactic(auto, using(xe_ctx::proofs::Trees::row_rules))]
 
 ghost use Rattle.std.specs.Prelude.{◌≡◌, ◌==◌, ◌&&◌};
 ghost use Rattle.xe_ctx.specs.Contract.{ℕ, IsOf, IsReady, Finishes, true, cpu_of};

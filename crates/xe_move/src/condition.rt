@@ -1,4 +1,5 @@
 //! Instructions under a condition.
+#![tactic(auto, using(xe_ctx::proofs::Trees::row_rules))]
 
 ghost use Rattle.std.specs.Prelude.{◌≡◌, if◌then◌else◌};
 ghost use Rattle.xe_ctx.specs.Contract.{ℕ, IsOf, IsReady, Finishes, cpu_of};

@@ -1,4 +1,5 @@
 //! Numbers made wider.
+#![tactic(auto, using(xe_ctx::proofs::Trees::row_rules))]
 
 ghost use Rattle.std.specs.Prelude.{◌≡◌, ◌/◌, ◌%◌, ◌^◌};
 ghost use Rattle.xe_ctx.specs.Contract.{ℕ, IsTrue, is_size, IsOf, IsReady, Finishes, cpu_of};

@@ -2,7 +2,7 @@
 //! under a condition, and those that set a flag by itself.
 //!
 //! Each row stands beside its definition: that of `moves` in `specs/Moves.antt`, and so on.
-#![tactic(auto, using(xe_ctx::proofs::Trees::row_rules))]
+#![tactic(auto)]
 
 mod condition;
 mod extend;

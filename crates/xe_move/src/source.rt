@@ -1,4 +1,5 @@
 //! Where an instruction takes a number from.
+#![tactic(auto, using(xe_ctx::proofs::Trees::row_rules))]
 
 ghost use Rattle.xe_ctx.specs.Contract.{ℕ, IsTrue, is_size, HasLeft, RunsWithin, cpu_of};
 ghost use Rattle.xe_move.specs.Source.{read_source, IsSource};

@@ -1,4 +1,5 @@
 //! Elements that are compared.
+#![tactic(auto, using(xe_ctx::proofs::Trees::row_rules))]
 
 ghost use Rattle.std.specs.Prelude.{◌≡◌, ◌%◌, ◌^◌, IsTrue};
 ghost use Rattle.xe_base.specs.Registers.{is_size};

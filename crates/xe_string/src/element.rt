@@ -1,4 +1,5 @@
 //! What a string instruction does with one element.
+#![tactic(auto, using(xe_ctx::proofs::Trees::row_rules))]
 
 ghost use Rattle.xe_ctx.specs.Contract.{ℕ, IsReady, DraftsWithin, cpu_of};
 ghost use Rattle.xe_string.specs.Element.{element};

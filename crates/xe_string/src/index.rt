@@ -1,4 +1,5 @@
 //! Where the elements of strings lie.
+#![tactic(auto, using(xe_ctx::proofs::Trees::row_rules))]
 
 ghost use Rattle.std.specs.Prelude.{◌≡◌, ◌<◌, ◌≤◌, ◌*◌, ◌%◌, ◌^◌};
 ghost use Rattle.xe_opmap.specs.Encoding.{IsSize};

@@ -3,7 +3,7 @@
 //!
 //! One step does one element. Each part stands beside its definition: that of `repeat` in
 //! `specs/Repeat.antt`, and so on.
-#![tactic(auto, using(xe_ctx::proofs::Trees::row_rules))]
+#![tactic(auto)]
 
 mod compare;
 mod element;

@@ -1,4 +1,5 @@
 //! Elements that come from a port or go to one.
+#![tactic(auto, using(xe_ctx::proofs::Trees::row_rules))]
 
 ghost use Rattle.std.specs.Prelude.{◌≡◌, ◌<◌, ◌≤◌, ◌^◌, ◌*◌, ◌==◌, ◌||◌, IsTrue};
 ghost use Rattle.xe_base.specs.Access.{IsWellFormed};

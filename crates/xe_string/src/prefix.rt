@@ -1,4 +1,5 @@
 //! The prefixes that repeat a string instruction.
+#![tactic(auto, using(xe_ctx::proofs::Trees::row_rules))]
 
 ghost use Rattle.std.specs.Prelude.{◌≡◌};
 ghost use Rattle.xe_string.specs.Prefix.{is_repeated};

@@ -1,4 +1,5 @@
 //! Worked examples: single elements from the bytes of their instruction.
+#![tactic(auto, using(xe_ctx::proofs::Trees::row_rules))]
 
 ghost use Rattle.std.specs.Prelude.{◌≤◌, length, None};
 

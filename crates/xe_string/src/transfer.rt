@@ -1,4 +1,5 @@
 //! Elements that are moved.
+#![tactic(auto, using(xe_ctx::proofs::Trees::row_rules))]
 
 ghost use Rattle.std.specs.Prelude.{◌≡◌};
 ghost use Rattle.xe_ctx.specs.Contract.{ℕ, IsReady, DraftsWithin, cpu_of};

@@ -1,4 +1,5 @@
 //! Control registers: MOV, SMSW, LMSW and CLTS.
+#![tactic(auto, using(xe_ctx::proofs::Trees::row_rules))]
 
 ghost use Rattle.std.specs.Prelude.{◌≡◌, ◌<◌, ◌^◌, IsTrue};
 ghost use Rattle.xe_base.specs.Bits.{bit};

@@ -1,4 +1,5 @@
 //! CPUID.
+#![tactic(auto, using(xe_ctx::proofs::Trees::row_rules))]
 
 ghost use Rattle.std.specs.Prelude.{◌≡◌};
 ghost use Rattle.xe_base.specs.Access.{IsWellFormed};

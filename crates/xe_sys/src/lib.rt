@@ -2,7 +2,7 @@
 //! the instruction table that work on the system.
 //!
 //! Each row stands beside its definition: that of `port` in `specs/Port.antt`, and so on.
-#![tactic(auto, using(xe_ctx::proofs::Trees::row_rules))]
+#![tactic(auto)]
 
 mod control;
 mod cpuid;

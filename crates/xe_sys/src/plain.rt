@@ -1,4 +1,5 @@
 //! Rows that ask for little more than their intercept.
+#![tactic(auto, using(xe_ctx::proofs::Trees::row_rules))]
 
 ghost use Rattle.xe_base.specs.Exceptions.{plain_exception, invalid_opcode};
 ghost use Rattle.std.specs.Prelude.{◌≡◌};

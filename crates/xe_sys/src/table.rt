@@ -1,4 +1,5 @@
 //! Descriptor table registers.
+#![tactic(auto, using(xe_ctx::proofs::Trees::row_rules))]
 
 ghost use Rattle.std.specs.Prelude.{◌≡◌, ◌<◌, ◌^◌, ◌*◌, ◌%◌, IsTrue, true, ℕ};
 ghost use Rattle.xe_base.specs.State.{needs, is_long, is_base};
