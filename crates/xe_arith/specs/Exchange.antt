@@ -5,7 +5,7 @@ use Rattle.xe_base.specs.State.{mode_of}
 use Rattle.xe_base.specs.declared.segment.SegName.{SegName}
 use Rattle.xe_base.specs.declared.segment.SegName.TheVariants.{Es, Cs, Ss, Ds, Fs, Gs}
 use Rattle.xe_flags.specs.Arithmetic.{alu_word, alu_flags}
-use Rattle.xe_flags.specs.Status.{status_of, with_status}
+use Rattle.xe_flags.specs.Status.{with_zero}
 use Rattle.xe_flags.specs.declared.arithmetic.AluOp.TheVariants.{Add, Cmp}
 use Rattle.xe_ctx.specs.declared.operand.Operand.{Operand}
 use Rattle.xe_ctx.specs.declared.operand.Operand.TheVariants.{Register, Memory}
@@ -61,10 +61,6 @@ replacement insn cpu = let n = half_size insn in joined n (reads insn cpu n cx) 
 -- what is stored, where memory held this number
 abbrev pub pair_stored : Insn → Cpu → ℕ → ℕ
 pair_stored insn cpu old = if old == expected insn cpu then replacement insn cpu else old
-
--- the flags with this ZF
-abbrev pub with_zero : ℕ → Bool → ℕ
-with_zero flags zero = with_status flags (record (status_of flags) { zero = zero })
 
 -- the registers then: ZF says whether the numbers were equal; where they weren't, rDX:rAX gets what memory holds
 abbrev pub pair_loaded : Insn → Cpu → ℕ → Cpu

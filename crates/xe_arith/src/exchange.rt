@@ -5,7 +5,7 @@ ghost use Rattle.xe_base.specs.Exceptions.{plain_exception, exception, invalid_o
 ghost use Rattle.std.specs.Prelude.{◌≡◌, ◌<◌, ◌*◌, ◌^◌, ◌%◌, ◌/◌, ◌==◌, ◌||◌};
 ghost use Rattle.xe_ctx.specs.Contract.{ℕ, IsTrue, is_size, HasLeft, IsReady, Finishes, DraftsWithin, IsOperand, cpu_of};
 ghost use Rattle.xe_ctx.specs.Operand.{reg_of};
-ghost use Rattle.xe_arith.specs.Exchange.{xadd_row, put_back, compared, cmpxchg_row, half_size, joined, expected, replacement, pair_stored, with_zero, pair_loaded, pair_row, long_base, is_misaligned, pair_at, cmpxchg8b_row};
+ghost use Rattle.xe_arith.specs.Exchange.{xadd_row, put_back, compared, cmpxchg_row, half_size, joined, expected, replacement, pair_stored, pair_loaded, pair_row, long_base, is_misaligned, pair_at, cmpxchg8b_row};
 
 use crate::sized::alu_at;
 use xe_base::access::{GENERAL_PROTECTION, INVALID_OPCODE};
@@ -15,7 +15,7 @@ use xe_ctx::operand::{
     size_by_opcode, write_operand, write_register,
 };
 use xe_ctx::{Bus, Ctx, End, Stop};
-use xe_flags::{AluOp, Status, status_of, with_status};
+use xe_flags::{AluOp, with_zero};
 use xe_icpt::Intercepts;
 use xe_opmap::Insn;
 
@@ -161,17 +161,6 @@ fn pair_stored(insn: &Insn, cpu: &Cpu, old: u128) -> u128
     } else {
         old
     }
-}
-
-/// The flags with this ZF.
-fn with_zero(flags: u64, zero: bool) -> u64
-    ensures { result ≡ with_zero flags zero }
-{
-    let status = Status {
-        zero,
-        ..status_of(flags)
-    };
-    with_status(flags, status)
 }
 
 /// The lower and the higher half of a number.

@@ -24,7 +24,7 @@ use Rattle.xe_ctx.proofs.BoundLaws.{takes_more, takes_then, takes_if}
 use Rattle.xe_ctx.proofs.RowBounds.{Small, small-2, small-of, read, fetch, write, takes_protection, takes_stack_load}
 use Rattle.xe_desc.specs.DescriptorTable.{is_in_table, descriptor_address}
 use Rattle.xe_desc.specs.Load.{or_fault, load_described, reads_descriptor, no_descriptor, load_segment, not_code, sreg, selector_size, store_selector, from_segment, to_segment, movseg_row, popseg_row, far_pointer_at}
-use Rattle.xe_desc.specs.Query.{has_descriptor, some_descriptor, find_descriptor, with_zero, lar_row, lsl_row, verr_row, verw_row, raised, arpl_row}
+use Rattle.xe_desc.specs.Query.{has_descriptor, some_descriptor, find_descriptor, zero_written, lar_row, lsl_row, verr_row, verw_row, raised, arpl_row}
 use Rattle.xe_desc.specs.Rows.{row_at, or_undefined, row_of}
 use Rattle.xe_desc.specs.Task.{outside_real_mode, or_selector, stored_row, read_wide, read_narrow, read_system, with_ldtr, load_ldt, load_ldtr, lldt_row, load_tss, ltr_row}
 use Rattle.xe_desc.proofs.TableBounds.{takes_fetch, takes_read, takes_mark}
@@ -129,8 +129,8 @@ module _ (insn : Insn) (cpu : Cpu) (of_ : IsOf cpu insn) where
   takes_raised : (operand : Operand) (sel asker : ℕ) → TakesAtMost 1 4 18 (raised insn cpu operand sel asker)
   unfolding raised
   takes_raised operand sel asker =
-      let raise = write_operand insn (with_zero cpu true) operand 2 (sel - rpl_of sel + rpl_of asker) in
-      takes_if 1 4 18 (nat_lt (rpl_of sel) (rpl_of asker)) raise (give (with_zero cpu false)) (write insn cpu (with_zero cpu true) operand 2 _ small-2) tt
+      let raise = write_operand insn (zero_written cpu true) operand 2 (sel - rpl_of sel + rpl_of asker) in
+      takes_if 1 4 18 (nat_lt (rpl_of sel) (rpl_of asker)) raise (give (zero_written cpu false)) (write insn cpu (zero_written cpu true) operand 2 _ small-2) tt
 
   most_from : (named : Option SegName) → TakesAtMost 64 12 42 (from_segment insn cpu named)
   most_from None = tt

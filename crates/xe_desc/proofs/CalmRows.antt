@@ -23,14 +23,14 @@ use Rattle.xe_ctx.proofs.FinishLaws.{each_then, each_implies, gives_of}
 use Rattle.xe_ctx.proofs.Tame.{Tame, tame_same, tame_flags, tame_register, tame_operand, plain_end, asked_then, each_if}
 use Rattle.xe_desc.specs.Load.{store_selector}
 use Rattle.xe_desc.specs.Loaded.{EndsByLoad}
-use Rattle.xe_desc.specs.Query.{with_zero, answered, lar_row, lsl_row, verr_row, verw_row, raised, arpl_row}
+use Rattle.xe_desc.specs.Query.{zero_written, answered, lar_row, lsl_row, verr_row, verw_row, raised, arpl_row}
 use Rattle.xe_desc.specs.Rows.{row_at, or_undefined, row_of, is_row, is_calm_row}
 use Rattle.xe_desc.specs.Task.{stored_row}
 use Rattle.xe_desc.proofs.LoadRows.{Lands, lands_plainly, tame_selector, lands_movseg, lands_popseg, lands_far_pointer, lands_lldt, lands_ltr}
 
 -- ---- the rows that load nothing
 
-tame_zero : (cpu : Cpu) (zero : Bool) → Tame cpu (with_zero cpu zero)
+tame_zero : (cpu : Cpu) (zero : Bool) → Tame cpu (zero_written cpu zero)
 tame_zero cpu zero = tame_flags _ (tame_same cpu) (fixed_written cpu.rflags _)
 
 tame_answered : (insn : Insn) (cpu : Cpu) (found : Option ℕ) → Tame cpu (answered insn cpu found)
@@ -40,8 +40,8 @@ tame_answered insn cpu (Some value) = tame_register _ _ _ value (tame_zero cpu _
 tame_raised : (insn : Insn) (cpu : Cpu) (operand : Operand) (sel asker : ℕ) → EachGives (Tame cpu) (raised insn cpu operand sel asker)
 unfolding raised
 tame_raised insn cpu operand sel asker =
-    let raise = write_operand insn (with_zero cpu true) operand 2 (sel - rpl_of sel + rpl_of asker) in
-    each_if (Tame cpu) (nat_lt (rpl_of sel) (rpl_of asker)) raise (give (with_zero cpu false)) (tame_operand insn cpu (with_zero cpu true) operand 2 (sel - rpl_of sel + rpl_of asker) (tame_zero cpu true)) (tame_zero cpu false)
+    let raise = write_operand insn (zero_written cpu true) operand 2 (sel - rpl_of sel + rpl_of asker) in
+    each_if (Tame cpu) (nat_lt (rpl_of sel) (rpl_of asker)) raise (give (zero_written cpu false)) (tame_operand insn cpu (zero_written cpu true) operand 2 (sel - rpl_of sel + rpl_of asker) (tame_zero cpu true)) (tame_zero cpu false)
 
 module _ (insn : Insn) (cpu : Cpu) where
   abbrev P : Finish → Type 0

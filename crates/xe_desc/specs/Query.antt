@@ -1,7 +1,7 @@
 use Rattle.std.specs.Prelude.{◌+◌, ◌-◌, ◌/◌, ◌^◌, ◌==◌, ◌&&◌, ◌||◌, nat_le, bit_and, if◌then◌else◌}
 use Rattle.xe_ctx.specs.Definition.{ℕ, Bool, true, false, not, nat_lt, Option, Some, None, Cpu, Insn, Tree, ◌>>=◌, give, operand_of, reg_of, reads, writes, read_operand, read_for_write, write_operand, ends}
 use Rattle.xe_base.specs.State.{lma}
-use Rattle.xe_flags.specs.Status.{status_of, with_status}
+use Rattle.xe_flags.specs.Status.{with_zero}
 use Rattle.xe_seg.specs.Attributes.{is_conforming, is_readable, is_writable}
 use Rattle.xe_seg.specs.Descriptors.{limit_of, kind_of, s_of, dpl_of, attr_of}
 use Rattle.xe_seg.specs.Loads.{is_null, rpl_of}
@@ -15,8 +15,8 @@ use Rattle.xe_desc.specs.Task.{outside_real_mode}
 -- What a program may ask of selectors and their descriptors (SDM volume 2, "LAR", "LSL", "VERR/VERW" and "ARPL"; volume 3, "Pointer Validation").
 
 -- the registers with this ZF
-abbrev pub with_zero : Cpu → Bool → Cpu
-with_zero cpu zero = record cpu { rflags = with_status cpu.rflags (record (status_of cpu.rflags) { zero = zero }) }
+abbrev pub zero_written : Cpu → Bool → Cpu
+zero_written cpu zero = record cpu { rflags = with_zero cpu.rflags zero }
 
 -- ---- the descriptor
 
@@ -75,8 +75,8 @@ limit_answer cpu sel (Some d) = if has_limit cpu d && is_visible cpu sel d then 
 
 -- ZF says whether they do, and only then G is written
 abbrev pub answered : Insn → Cpu → Option ℕ → Cpu
-answered insn cpu None = with_zero cpu false
-answered insn cpu (Some value) = writes insn (with_zero cpu true) insn.opsize (reg_of insn) value
+answered insn cpu None = zero_written cpu false
+answered insn cpu (Some value) = writes insn (zero_written cpu true) insn.opsize (reg_of insn) value
 
 abbrev pub lar_row : Insn → Cpu → Tree Finish
 lar_row insn cpu = do
@@ -107,22 +107,22 @@ verr_row insn cpu = do
   _ ← outside_real_mode cpu
   value ← read_operand insn cpu (operand_of insn cpu) 2
   found ← find_descriptor cpu (selector value)
-  ends insn (with_zero cpu (is_verified_read cpu (selector value) found))
+  ends insn (zero_written cpu (is_verified_read cpu (selector value) found))
 
 abbrev pub verw_row : Insn → Cpu → Tree Finish
 verw_row insn cpu = do
   _ ← outside_real_mode cpu
   value ← read_operand insn cpu (operand_of insn cpu) 2
   found ← find_descriptor cpu (selector value)
-  ends insn (with_zero cpu (is_verified_write cpu (selector value) found))
+  ends insn (zero_written cpu (is_verified_write cpu (selector value) found))
 
 -- ---- ARPL
 
 -- RPL of E is raised to that of G, which ZF tells; else nothing is stored
 unfoldable pub raised : Insn → Cpu → Operand → ℕ → ℕ → Tree Cpu
 raised insn cpu operand sel asker =
-    if nat_lt (rpl_of sel) (rpl_of asker) then write_operand insn (with_zero cpu true) operand 2 (sel - rpl_of sel + rpl_of asker)
-    else give (with_zero cpu false)
+    if nat_lt (rpl_of sel) (rpl_of asker) then write_operand insn (zero_written cpu true) operand 2 (sel - rpl_of sel + rpl_of asker)
+    else give (zero_written cpu false)
 
 -- E has to be writable in both cases
 abbrev pub arpl_row : Insn → Cpu → Tree Finish

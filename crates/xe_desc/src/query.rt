@@ -3,7 +3,7 @@
 
 ghost use Rattle.std.specs.Prelude.{◌≡◌, ◌<◌};
 ghost use Rattle.xe_ctx.specs.Contract.{ℕ, IsTrue, is_size, IsOf, HasLeft, IsReady, Finishes, RunsWithin, DraftsWithin, IsOperand, cpu_of};
-ghost use Rattle.xe_desc.specs.Query.{with_zero, has_descriptor, some_descriptor, find_descriptor, is_visible, is_segment_kind, is_gate_kind, has_limit, has_rights, can_be_read, can_be_written, rights_of, rights_answer, limit_answer, answered, lar_row, lsl_row, is_verified_read, is_verified_write, verr_row, verw_row, raised, arpl_row};
+ghost use Rattle.xe_desc.specs.Query.{zero_written, has_descriptor, some_descriptor, find_descriptor, is_visible, is_segment_kind, is_gate_kind, has_limit, has_rights, can_be_read, can_be_written, rights_of, rights_answer, limit_answer, answered, lar_row, lsl_row, is_verified_read, is_verified_write, verr_row, verw_row, raised, arpl_row};
 
 use crate::descriptor_table::{fetch_descriptor, is_in_table};
 use crate::load::selector;
@@ -14,7 +14,7 @@ use xe_ctx::operand::{
     write_register,
 };
 use xe_ctx::{Bus, Ctx, End, Stop};
-use xe_flags::{Status, status_of, with_status};
+use xe_flags::with_zero;
 use xe_icpt::Intercepts;
 use xe_opmap::Insn;
 use xe_seg::Descriptor;
@@ -23,13 +23,9 @@ use xe_seg::loads::is_null;
 
 /// Writes ZF.
 fn set_zero(cpu: &mut Cpu, zero: bool)
-    ensures { cpu.new ≡ with_zero cpu.old zero }
+    ensures { cpu.new ≡ zero_written cpu.old zero }
 {
-    let status = Status {
-        zero,
-        ..status_of(cpu.rflags)
-    };
-    cpu.rflags = with_status(cpu.rflags, status);
+    cpu.rflags = with_zero(cpu.rflags, zero);
 }
 
 /// Whether a selector has a descriptor: it isn't null, and its descriptor isn't past the table.

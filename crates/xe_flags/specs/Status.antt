@@ -38,6 +38,10 @@ with_status flags s = bit_or (others flags) (encoded s)
 abbrev pub status_of : ℕ → Status
 status_of flags = record { carry = flag flags 0; parity = flag flags 2; adjust = flag flags 4; zero = flag flags 6; sign = flag flags 7; overflow = flag flags 11 }
 
+-- the flags with this ZF, and the others as they were
+abbrev pub with_zero : ℕ → Bool → ℕ
+with_zero flags zero = with_status flags (record (status_of flags) { zero = zero })
+
 -- zero, sign and parity by a result of W bits, and the other three as they were
 abbrev pub by_result : ℕ → ℕ → Status → Status
 by_result W r s = record s { parity = is_even_low r; zero = r == 0; sign = top W r }

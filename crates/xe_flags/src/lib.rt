@@ -28,7 +28,7 @@ pub use products::mul;
 pub use quotients::{DivFault, div};
 pub use scans::{ScanOp, scan};
 pub use shifts::{ShiftOp, shift};
-pub use status::{Status, flag, status_of, with_status};
+pub use status::{Status, flag, status_of, with_status, with_zero};
 
 #[cfg(test)]
 mod tests;

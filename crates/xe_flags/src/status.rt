@@ -1,7 +1,7 @@
 //! The six status flags of RFLAGS: SDM volume 1, "EFLAGS Register".
 
 ghost use Rattle.std.specs.Prelude.{◌≡◌, ◌<◌, ◌^◌};
-ghost use Rattle.xe_flags.specs.Status.{with_status, flag, encoded, status_of, SameOthers};
+ghost use Rattle.xe_flags.specs.Status.{with_status, flag, encoded, status_of, with_zero, SameOthers};
 
 /// The bits of the flags that arithmetic sets: CF 0, PF 2, AF 4, ZF 6, SF 7 and OF 11.
 pub const STATUS: u64 = 0x8D5;
@@ -58,4 +58,15 @@ pub fn status_of(flags: u64) -> Status
         sign: flag(flags, 7),
         overflow: flag(flags, 11),
     }
+}
+
+/// The flags with this ZF, and the others as they were.
+pub fn with_zero(flags: u64, zero: bool) -> u64
+    ensures { result ≡ with_zero flags zero }
+{
+    let status = Status {
+        zero,
+        ..status_of(flags)
+    };
+    with_status(flags, status)
 }
