@@ -80,6 +80,7 @@ impl GuestMem {
 
     /// The first address from `from` on that isn't RAM; regions that touch are passed as one. So
     /// from `from` on as many bytes can be loaded or stored as the answer is ahead, and no more.
+    #[inline]
     pub fn first_gap(&self, from: u64) -> u64
         ensures gap { IsGap self.now from result }
         ensures ram { (n : ℕ) → from + n ≤ result → AreRam self.now from n }
@@ -88,6 +89,7 @@ impl GuestMem {
     }
 
     /// Whether each of the `n` bytes from `pa` on is RAM.
+    #[inline]
     pub fn is_ram(&self, pa: u64, n: u64) -> bool
         ensures { IsTrue result ↔ AreRam self.now pa n }
     {
@@ -95,6 +97,7 @@ impl GuestMem {
     }
 
     /// Reads the bytes from `pa` on.
+    #[inline]
     pub fn load(&self, pa: u64, out: &mut [u8])
         requires { AreRam self.now pa (length out.old) }
         ensures { out.new ≡ bytes_of self.now pa (length out.old) }
@@ -104,6 +107,7 @@ impl GuestMem {
     }
 
     /// Writes these bytes from `pa` on.
+    #[inline]
     pub fn store(&mut self, pa: u64, bytes: &[u8])
         requires { AreRam self.old pa (length bytes.now) }
         ensures written { self.new ≡ put_bytes self.old pa bytes.now }

@@ -44,6 +44,7 @@ pub enum MemFault {
 
 impl Region {
     /// Whether the address is in the region.
+    #[inline]
     #[tactic(auto, using(std::proofs::lemmas::Bool::Decides::nat_tests), unfolding(crate::specs::Layout::covers))]
     pub(crate) fn covers(&self, pa: u64) -> bool
         ensures { result ≡ covers self.now pa }
@@ -67,6 +68,7 @@ impl Region {
 
 /// Where the byte at `pa` lies, if those of all regions stand one region after another; their
 /// number, where `pa` isn't RAM.
+#[inline]
 pub(crate) fn position(regions: &[Region], pa: u64) -> usize
     requires { total regions.now < 2 ^ 63 }
     ensures { result ≡ place regions.now pa }
@@ -82,6 +84,7 @@ pub(crate) fn position(regions: &[Region], pa: u64) -> usize
 }
 
 /// The first address from `from` on that is in none of these regions.
+#[inline]
 pub(crate) fn gap_from(regions: &[Region], from: u64) -> u64
     requires { follow 0 regions.now ≡ true }
     ensures { result ≡ gap_behind regions.now from }
