@@ -1,42 +1,16 @@
 //! Worked examples: a few instructions from their bytes.
-#![tactic(auto, using(xe_ctx::proofs::Trees::row_rules))]
 
-ghost use Rattle.std.specs.Prelude.{◌≤◌, length, None};
+ghost use Rattle.std.specs.Prelude.{◌≤◌, length};
 
 use crate::{exec, is_row, rows_change_states_calmly, rows_keep_states_valid, rows_take_little};
 use std::alloc::Global;
 use std::process::Abort;
 use std::test::Fail;
-use xe_base::{Access, Answer, Cpu};
-use xe_ctx::{Bus, Ctx, Flow, Machine, Record, Reply};
+use xe_base::Cpu;
+use xe_ctx::{Ctx, Flow, Record};
 use xe_icpt::NoHits;
-use xe_mem::{GuestMem, Region};
 use xe_opmap::{Decoded, decode};
-
-/// No device answers anything but 0.
-#[derive(Drop)]
-struct Quiet;
-
-impl Bus for Quiet {
-    ghost use Rattle.std.specs.Prelude.{None};
-
-    ghost sight = { λ _. record { tape = None; room = 0; spare = λ _. 0; unready = 0; faults = 0 } };
-
-    #[tactic(auto, using(crate::proofs::TestLaws::zero_fits))]
-    fn access(&mut self, _: Access) -> Reply {
-        Reply::Ready(Answer::Val(0))
-    }
-}
-
-/// A machine with 64 KiB at address 0, where each byte of RAM is 0, and these registers.
-fn machine(alloc: Global, cpu: Cpu) -> Option<Machine> {
-    let region = Region {
-        start: 0,
-        len: 1 << 16,
-    };
-    let mem = GuestMem::create(alloc, &[region]).ok()?;
-    Machine::new(mem, cpu).ok()
-}
+use xe_testing::{Quiet, machine};
 
 /// The registers after an instruction of this crate's rows that finishes.
 fn after(alloc: Global, cpu: Cpu, bytes: &[u8]) -> Option<Cpu>

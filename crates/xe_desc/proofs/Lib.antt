@@ -3,4 +3,3 @@ pub mod SegmentRules
 pub mod LoadRows
 pub mod CalmRows
 pub mod BoundRows
-pub mod TestLaws

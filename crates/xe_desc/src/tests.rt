@@ -1,7 +1,6 @@
 //! Worked examples: a few instructions from their bytes.
-#![tactic(auto, using(xe_ctx::proofs::Trees::row_rules))]
 
-ghost use Rattle.std.specs.Prelude.{◌≤◌, length, None};
+ghost use Rattle.std.specs.Prelude.{◌≤◌, length};
 
 use crate::{
     descriptors_take_little, exec, is_row, queries_change_states_calmly,
@@ -10,26 +9,11 @@ use crate::{
 use std::alloc::Global;
 use std::process::Abort;
 use std::test::Fail;
-use xe_base::{Access, Answer, Cpu, Fault, Seg};
-use xe_ctx::{Bus, Ctx, Flow, Machine, Record, Reply, Stop};
+use xe_base::{Cpu, Fault, Seg};
+use xe_ctx::{Ctx, Flow, Machine, Record, Stop};
 use xe_icpt::NoHits;
-use xe_mem::{GuestMem, Region};
 use xe_opmap::{Decoded, decode};
-
-/// No device answers anything but 0.
-#[derive(Drop)]
-struct Quiet;
-
-impl Bus for Quiet {
-    ghost use Rattle.std.specs.Prelude.{None};
-
-    ghost sight = { λ _. record { tape = None; room = 0; spare = λ _. 0; unready = 0; faults = 0 } };
-
-    #[tactic(auto, using(crate::proofs::TestLaws::zero_fits))]
-    fn access(&mut self, _: Access) -> Reply {
-        Reply::Ready(Answer::Val(0))
-    }
-}
+use xe_testing::Quiet;
 
 /// A GDT of four descriptors: none; writable data at A0000h that wasn't accessed; an available TSS of 32 bits
 /// with 68h bytes; and readable code of 4 GiB at level 0.
@@ -40,12 +24,7 @@ const GDT: [u8; 32] = [
 
 /// A machine with 64 KiB at address 0, which holds this table at 1000h, and these registers.
 fn machine(alloc: Global, cpu: Cpu) -> Option<Machine> {
-    let region = Region {
-        start: 0,
-        len: 1 << 16,
-    };
-    let mem = GuestMem::create(alloc, &[region]).ok()?;
-    let mut m = Machine::new(mem, cpu).ok()?;
+    let mut m = xe_testing::machine(alloc, cpu)?;
     m.poke(0x1000, &GDT).ok()?;
     Some(m)
 }

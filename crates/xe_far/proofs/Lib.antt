@@ -2,4 +2,3 @@ pub mod Raises
 pub mod BoundRows
 pub mod Arrival
 pub mod SoundRows
-pub mod TestLaws

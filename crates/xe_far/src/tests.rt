@@ -1,32 +1,16 @@
 //! Worked examples: a few far transfers from their bytes.
-#![tactic(auto, using(xe_ctx::proofs::Trees::row_rules))]
 
-ghost use Rattle.std.specs.Prelude.{◌≤◌, length, None};
+ghost use Rattle.std.specs.Prelude.{◌≤◌, length};
 
 use crate::{exec, is_row, rows_keep_states_valid, rows_never_gain_privilege, rows_take_little};
 use std::alloc::Global;
 use std::process::Abort;
 use std::test::Fail;
-use xe_base::{Access, Answer, Cpu, Fault, Seg, Table};
-use xe_ctx::{Bus, Ctx, Flow, Handoff, Machine, Record, Reply, Stop};
+use xe_base::{Cpu, Fault, Seg, Table};
+use xe_ctx::{Ctx, Flow, Handoff, Machine, Record, Stop};
 use xe_icpt::NoHits;
-use xe_mem::{GuestMem, Region};
 use xe_opmap::{Decoded, decode};
-
-/// No device answers anything but 0.
-#[derive(Drop)]
-struct Quiet;
-
-impl Bus for Quiet {
-    ghost use Rattle.std.specs.Prelude.{None};
-
-    ghost sight = { λ _. record { tape = None; room = 0; spare = λ _. 0; unready = 0; faults = 0 } };
-
-    #[tactic(auto, using(crate::proofs::TestLaws::zero_fits))]
-    fn access(&mut self, _: Access) -> Reply {
-        Reply::Ready(Answer::Val(0))
-    }
-}
+use xe_testing::Quiet;
 
 /// Descriptors of code and data at level 0, of code and data at level 3, of code that isn't present, and a
 /// call gate: from selector 8 on.
@@ -37,12 +21,7 @@ const DESCRIPTORS: [u8; 48] = [
 
 /// A machine with 64 KiB at address 0, these registers, the descriptors at 1008h and a stack at 200h.
 fn machine(alloc: Global, cpu: Cpu, stack: &[u8]) -> Option<Machine> {
-    let region = Region {
-        start: 0,
-        len: 1 << 16,
-    };
-    let mem = GuestMem::create(alloc, &[region]).ok()?;
-    let mut m = Machine::new(mem, cpu).ok()?;
+    let mut m = xe_testing::machine(alloc, cpu)?;
     m.poke(0x1008, &DESCRIPTORS).ok()?;
     m.poke(0x200, stack).ok()?;
     Some(m)

@@ -3,4 +3,3 @@ pub mod Moved
 pub mod Frames
 pub mod CalmRows
 pub mod BoundRows
-pub mod TestLaws

@@ -1,44 +1,23 @@
 //! Worked examples: a few instructions from their bytes.
-#![tactic(auto, using(xe_ctx::proofs::Trees::row_rules))]
 
-ghost use Rattle.std.specs.Prelude.{◌≤◌, length, None};
+ghost use Rattle.std.specs.Prelude.{◌≤◌, length};
 
 use crate::{exec, is_row, rows_change_states_calmly, rows_keep_states_valid, rows_take_little};
 use std::alloc::Global;
 use std::process::Abort;
 use std::test::Fail;
-use xe_base::{Access, Answer, Cpu};
-use xe_ctx::{Bus, Ctx, Event, EventKind, Flow, Machine, Record, Reply, Stop};
+use xe_base::Cpu;
+use xe_ctx::{Ctx, Event, EventKind, Flow, Machine, Record, Stop};
 use xe_icpt::NoHits;
-use xe_mem::{GuestMem, Region};
 use xe_opmap::{Decoded, decode};
-
-/// No device answers anything but 0.
-#[derive(Drop)]
-struct Quiet;
-
-impl Bus for Quiet {
-    ghost use Rattle.std.specs.Prelude.{None};
-
-    ghost sight = { λ _. record { tape = None; room = 0; spare = λ _. 0; unready = 0; faults = 0 } };
-
-    #[tactic(auto, using(crate::proofs::TestLaws::zero_fits))]
-    fn access(&mut self, _: Access) -> Reply {
-        Reply::Ready(Answer::Val(0))
-    }
-}
+use xe_testing::Quiet;
 
 /// A machine with 64 KiB at address 0, where each byte of RAM is 0, and these stack and frame pointers.
 fn machine(alloc: Global, sp: u64, bp: u64) -> Option<Machine> {
-    let region = Region {
-        start: 0,
-        len: 1 << 16,
-    };
-    let mem = GuestMem::create(alloc, &[region]).ok()?;
     let mut cpu = Cpu::reset();
     cpu.gpr[4] = sp;
     cpu.gpr[5] = bp;
-    Machine::new(mem, cpu).ok()
+    xe_testing::machine(alloc, cpu)
 }
 
 /// How an instruction of this crate's rows ends on a machine, whose memory changes where it finishes.

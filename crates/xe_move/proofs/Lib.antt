@@ -1,3 +1,2 @@
 pub mod CalmRows
 pub mod BoundRows
-pub mod TestLaws

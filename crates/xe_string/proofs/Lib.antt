@@ -1,5 +1,4 @@
 pub mod ElementLaws
 pub mod CalmRows
 pub mod BoundRows
-pub mod TestLaws
 pub mod CountRows

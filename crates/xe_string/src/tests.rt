@@ -1,7 +1,6 @@
 //! Worked examples: single elements from the bytes of their instruction.
-#![tactic(auto, using(xe_ctx::proofs::Trees::row_rules))]
 
-ghost use Rattle.std.specs.Prelude.{◌≤◌, length, None};
+ghost use Rattle.std.specs.Prelude.{◌≤◌, length};
 
 use crate::{
     exec, is_row, rows_change_states_calmly, rows_count_down, rows_keep_states_valid,
@@ -10,36 +9,16 @@ use crate::{
 use std::alloc::Global;
 use std::process::Abort;
 use std::test::Fail;
-use xe_base::{Access, Answer, Cpu};
-use xe_ctx::{Bus, Ctx, Flow, Machine, Record, Reply};
+use xe_base::Cpu;
+use xe_ctx::{Ctx, Flow, Machine, Record};
 use xe_icpt::NoHits;
-use xe_mem::{GuestMem, Region};
 use xe_opmap::{Decoded, decode};
-
-/// No device answers anything but 0.
-#[derive(Drop)]
-struct Quiet;
-
-impl Bus for Quiet {
-    ghost use Rattle.std.specs.Prelude.{None};
-
-    ghost sight = { λ _. record { tape = None; room = 0; spare = λ _. 0; unready = 0; faults = 0 } };
-
-    #[tactic(auto, using(crate::proofs::TestLaws::zero_fits))]
-    fn access(&mut self, _: Access) -> Reply {
-        Reply::Ready(Answer::Val(0))
-    }
-}
+use xe_testing::Quiet;
 
 /// A machine with 64 KiB at address 0, where the byte at 200h is AAh and each other one 0, and these
 /// registers.
 fn machine(alloc: Global, cpu: Cpu) -> Option<Machine> {
-    let region = Region {
-        start: 0,
-        len: 1 << 16,
-    };
-    let mem = GuestMem::create(alloc, &[region]).ok()?;
-    let mut m = Machine::new(mem, cpu).ok()?;
+    let mut m = xe_testing::machine(alloc, cpu)?;
     m.poke(0x200, &[0xAA]).ok()?;
     Some(m)
 }

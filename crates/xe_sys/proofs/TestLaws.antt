@@ -1,17 +1,10 @@
-use Rattle.std.proofs.Common.{ℕ, ◌≡◌, ◌*◌, ◌^◌, IsTrue, nat_lt, true, pow_pos, arith, refl, subst}
+use Rattle.std.proofs.Common.{ℕ, ◌≡◌, ◌*◌, ◌^◌, IsTrue, nat_lt, true, refl, subst}
 use Rattle.std.proofs.lemmas.Bool.{eqb-true}
-use Rattle.std.proofs.lemmas.Bool.Decides.{nat_tests}
 use Rattle.xe_base.specs.Access.{IsWellFormed, is_size_in, answers_to}
 use Rattle.xe_base.specs.declared.access.Access.{Access}
 use Rattle.xe_base.specs.declared.access.Answer.TheVariants.{Val, No}
 use Rattle.xe_base.specs.declared.access.Space.TheVariants.{Msr}
 use Rattle.xe_sys.proofs.StateRules.{left}
-
-below : (n : ℕ) → nat_lt 0 (2 ^ n) ≡ true
-below n = let h = pow_pos n in grind (arith, nat_tests, h)
-
-pub zero_fits : (a : Access) → IsTrue (answers_to a (Val 0))
-zero_fits a = below (8 * a.size)
 
 pub no_fits : (a : Access) → a.space ≡ Msr → IsTrue (answers_to a No)
 no_fits a e = rw e refl

@@ -1,5 +1,4 @@
 //! Worked examples: a few instructions from their bytes.
-#![tactic(auto, using(xe_ctx::proofs::Trees::row_rules))]
 
 ghost use Rattle.std.specs.Prelude.{◌≤◌, length, None};
 
@@ -11,10 +10,10 @@ use std::alloc::Global;
 use std::process::Abort;
 use std::test::Fail;
 use xe_base::{Access, Answer, Cpu, Space};
-use xe_ctx::{Bus, Ctx, Flow, Machine, Record, Reply, Stop};
+use xe_ctx::{Bus, Ctx, Flow, Record, Reply, Stop};
 use xe_icpt::{SvmName, SvmSet};
-use xe_mem::{GuestMem, Region};
 use xe_opmap::{Decoded, decode};
+use xe_testing::machine;
 
 /// Each device answers 0, but for one model-specific register; the others aren't there.
 #[derive(Drop)]
@@ -25,7 +24,7 @@ impl Bus for OneMsr {
 
     ghost sight = { λ _. record { tape = None; room = 0; spare = λ _. 0; unready = 0; faults = 0 } };
 
-    #[tactic(auto, using(crate::proofs::TestLaws::zero_fits, crate::proofs::TestLaws::no_fits, crate::proofs::TestLaws::msr_fits))]
+    #[tactic(auto, using(xe_testing::proofs::ZeroLaws::zero_fits, crate::proofs::TestLaws::no_fits, crate::proofs::TestLaws::msr_fits))]
     fn access(&mut self, a: Access) -> Reply {
         match a.space {
             Space::Msr => {
@@ -38,16 +37,6 @@ impl Bus for OneMsr {
             Space::Mem | Space::Port | Space::Cpuid => Reply::Ready(Answer::Val(0)),
         }
     }
-}
-
-/// A machine with 64 KiB at address 0, where each byte of RAM is 0, and these registers.
-fn machine(alloc: Global, cpu: Cpu) -> Option<Machine> {
-    let region = Region {
-        start: 0,
-        len: 1 << 16,
-    };
-    let mem = GuestMem::create(alloc, &[region]).ok()?;
-    Machine::new(mem, cpu).ok()
 }
 
 /// How an instruction of this crate's rows ends.
