@@ -24,7 +24,7 @@ use Rattle.xe_ctx.proofs.BoundLaws.{takes_more, takes_then, takes_if}
 use Rattle.xe_ctx.proofs.RowBounds.{Small, small-2, small-of, read, fetch, write, takes_protection, takes_stack_load}
 use Rattle.xe_desc.specs.DescriptorTable.{is_in_table, descriptor_address}
 use Rattle.xe_desc.specs.Load.{or_fault, load_described, reads_descriptor, no_descriptor, load_segment, not_code, sreg, selector_size, store_selector, from_segment, to_segment, movseg_row, popseg_row, far_pointer_at}
-use Rattle.xe_desc.specs.Query.{has_descriptor, some_descriptor, find_descriptor, zero_written, lar_row, lsl_row, verr_row, verw_row, raised, arpl_row}
+use Rattle.xe_desc.specs.Query.{has_descriptor, some_descriptor, find_descriptor, zero_written, lar_row, lsl_row, verify_row, raised, arpl_row}
 use Rattle.xe_desc.specs.Rows.{row_at, or_undefined, row_of}
 use Rattle.xe_desc.specs.Task.{outside_real_mode, or_selector, stored_row, read_wide, read_narrow, read_system, with_ldtr, load_ldt, load_ldtr, lldt_row, load_tss, ltr_row}
 use Rattle.xe_desc.proofs.TableBounds.{takes_fetch, takes_read, takes_mark}
@@ -170,11 +170,8 @@ module _ (insn : Insn) (cpu : Cpu) (of_ : IsOf cpu insn) where
   most_lsl : TakesAtMost 64 12 42 (lsl_row insn cpu)
   most_lsl = takes_then _ 64 12 42 (λ a. takes_then _ 63 8 32 (λ value. takes_then _ 62 4 22 (λ found. tt) 1 4 10 _ (takes_find cpu _)) 1 4 10 _ (read insn cpu _ 2 small-2)) 0 0 0 _ (takes_real cpu)
 
-  most_verr : TakesAtMost 64 12 42 (verr_row insn cpu)
-  most_verr = takes_then _ 64 12 42 (λ a. takes_then _ 63 8 32 (λ value. takes_then _ 62 4 22 (λ found. tt) 1 4 10 _ (takes_find cpu _)) 1 4 10 _ (read insn cpu _ 2 small-2)) 0 0 0 _ (takes_real cpu)
-
-  most_verw : TakesAtMost 64 12 42 (verw_row insn cpu)
-  most_verw = takes_then _ 64 12 42 (λ a. takes_then _ 63 8 32 (λ value. takes_then _ 62 4 22 (λ found. tt) 1 4 10 _ (takes_find cpu _)) 1 4 10 _ (read insn cpu _ 2 small-2)) 0 0 0 _ (takes_real cpu)
+  most_verify : (write : Bool) → TakesAtMost 64 12 42 (verify_row write insn cpu)
+  most_verify write = takes_then _ 64 12 42 (λ a. takes_then _ 63 8 32 (λ value. takes_then _ 62 4 22 (λ found. tt) 1 4 10 _ (takes_find cpu _)) 1 4 10 _ (read insn cpu _ 2 small-2)) 0 0 0 _ (takes_real cpu)
 
   most_arpl : TakesAtMost 64 12 42 (arpl_row insn cpu)
   most_arpl = takes_then _ 64 12 42 (λ a. takes_then _ 63 8 32 (λ sel. takes_then _ 62 4 14 (λ after. tt) 1 4 18 _ (takes_raised (operand_of insn cpu) sel _)) 1 4 10 _ (fetch insn cpu _ 2 small-2)) 0 0 0 _ (takes_real cpu)
@@ -193,8 +190,8 @@ module _ (insn : Insn) (cpu : Cpu) (of_ : IsOf cpu insn) where
   taken_at row.Ltr = most_ltr
   taken_at row.Lar = most_lar
   taken_at row.Lsl = most_lsl
-  taken_at row.Verr = most_verr
-  taken_at row.Verw = most_verw
+  taken_at row.Verr = most_verify false
+  taken_at row.Verw = most_verify true
   taken_at row.Arpl = most_arpl
   taken_at other = tt
 

@@ -23,7 +23,7 @@ use Rattle.xe_ctx.proofs.FinishLaws.{each_then, each_implies, gives_of}
 use Rattle.xe_ctx.proofs.Tame.{Tame, tame_same, tame_flags, tame_register, tame_operand, plain_end, asked_then, each_if}
 use Rattle.xe_desc.specs.Load.{store_selector}
 use Rattle.xe_desc.specs.Loaded.{EndsByLoad}
-use Rattle.xe_desc.specs.Query.{zero_written, answered, lar_row, lsl_row, verr_row, verw_row, raised, arpl_row}
+use Rattle.xe_desc.specs.Query.{zero_written, answered, lar_row, lsl_row, verify_row, raised, arpl_row}
 use Rattle.xe_desc.specs.Rows.{row_at, or_undefined, row_of, is_row, is_calm_row}
 use Rattle.xe_desc.specs.Task.{stored_row}
 use Rattle.xe_desc.proofs.LoadRows.{Lands, lands_plainly, tame_selector, lands_movseg, lands_popseg, lands_far_pointer, lands_lldt, lands_ltr}
@@ -56,11 +56,8 @@ module _ (insn : Insn) (cpu : Cpu) where
   calm_lsl : EachGives P (lsl_row insn cpu)
   calm_lsl = asked_then P _ _ (λ a. asked_then P _ _ (λ value. asked_then P _ _ (λ found. plain_end insn cpu _ (tame_answered insn cpu _))))
 
-  calm_verr : EachGives P (verr_row insn cpu)
-  calm_verr = asked_then P _ _ (λ a. asked_then P _ _ (λ value. asked_then P _ _ (λ found. plain_end insn cpu _ (tame_zero cpu _))))
-
-  calm_verw : EachGives P (verw_row insn cpu)
-  calm_verw = asked_then P _ _ (λ a. asked_then P _ _ (λ value. asked_then P _ _ (λ found. plain_end insn cpu _ (tame_zero cpu _))))
+  calm_verify : (write : Bool) → EachGives P (verify_row write insn cpu)
+  calm_verify write = asked_then P _ _ (λ a. asked_then P _ _ (λ value. asked_then P _ _ (λ found. plain_end insn cpu _ (tame_zero cpu _))))
 
   calm_arpl : EachGives P (arpl_row insn cpu)
   calm_arpl = asked_then P _ _ (λ a. asked_then P _ _ (λ sel. each_then P (Tame cpu) (raised insn cpu (operand_of insn cpu) sel _) _ (tame_raised insn cpu (operand_of insn cpu) sel _) (λ after t. plain_end insn cpu after t)))
@@ -70,8 +67,8 @@ module _ (insn : Insn) (cpu : Cpu) where
   plain_at row.Str h = calm_stored Tr _
   plain_at row.Lar h = calm_lar
   plain_at row.Lsl h = calm_lsl
-  plain_at row.Verr h = calm_verr
-  plain_at row.Verw h = calm_verw
+  plain_at row.Verr h = calm_verify false
+  plain_at row.Verw h = calm_verify true
   plain_at row.Arpl h = calm_arpl
   plain_at other h = cc
 

@@ -94,27 +94,17 @@ lsl_row insn cpu = do
 
 -- ---- VERR and VERW
 
-abbrev pub is_verified_read : Cpu → ℕ → Option Descriptor → Bool
-is_verified_read cpu sel None = false
-is_verified_read cpu sel (Some d) = can_be_read d && is_visible cpu sel d
+-- VERW asks whether the segment can be written, VERR whether it can be read
+abbrev pub is_verified : Bool → Cpu → ℕ → Option Descriptor → Bool
+is_verified write cpu sel None = false
+is_verified write cpu sel (Some d) = (if write then can_be_written d else can_be_read d) && is_visible cpu sel d
 
-abbrev pub is_verified_write : Cpu → ℕ → Option Descriptor → Bool
-is_verified_write cpu sel None = false
-is_verified_write cpu sel (Some d) = can_be_written d && is_visible cpu sel d
-
-abbrev pub verr_row : Insn → Cpu → Tree Finish
-verr_row insn cpu = do
+abbrev pub verify_row : Bool → Insn → Cpu → Tree Finish
+verify_row write insn cpu = do
   _ ← outside_real_mode cpu
   value ← read_operand insn cpu (operand_of insn cpu) 2
   found ← find_descriptor cpu (selector value)
-  ends insn (zero_written cpu (is_verified_read cpu (selector value) found))
-
-abbrev pub verw_row : Insn → Cpu → Tree Finish
-verw_row insn cpu = do
-  _ ← outside_real_mode cpu
-  value ← read_operand insn cpu (operand_of insn cpu) 2
-  found ← find_descriptor cpu (selector value)
-  ends insn (zero_written cpu (is_verified_write cpu (selector value) found))
+  ends insn (zero_written cpu (is_verified write cpu (selector value) found))
 
 -- ---- ARPL
 

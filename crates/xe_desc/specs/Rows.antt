@@ -6,7 +6,7 @@ use Rattle.xe_ctx.specs.Definition.{Bool, true, false, Option, Some, None, Cpu, 
 use Rattle.xe_ctx.specs.Operand.{is_some}
 use Rattle.xe_ctx.specs.declared.stop.Finish.{Finish}
 use Rattle.xe_desc.specs.Load.{movseg_row, popseg_row, far_pointer_row}
-use Rattle.xe_desc.specs.Query.{lar_row, lsl_row, verr_row, verw_row, arpl_row}
+use Rattle.xe_desc.specs.Query.{lar_row, lsl_row, verify_row, arpl_row}
 use Rattle.xe_desc.specs.Task.{sldt_row, str_row, lldt_row, ltr_row}
 
 -- The rows of this crate.
@@ -26,8 +26,8 @@ row_at row.Lldt = Some lldt_row
 row_at row.Ltr = Some ltr_row
 row_at row.Lar = Some lar_row
 row_at row.Lsl = Some lsl_row
-row_at row.Verr = Some verr_row
-row_at row.Verw = Some verw_row
+row_at row.Verr = Some (verify_row false)
+row_at row.Verw = Some (verify_row true)
 row_at row.Arpl = Some arpl_row
 row_at other = None
 

@@ -3,7 +3,7 @@
 
 ghost use Rattle.std.specs.Prelude.{◌≡◌, ◌<◌};
 ghost use Rattle.xe_ctx.specs.Contract.{ℕ, IsTrue, is_size, IsOf, HasLeft, IsReady, Finishes, RunsWithin, DraftsWithin, IsOperand, cpu_of};
-ghost use Rattle.xe_desc.specs.Query.{zero_written, has_descriptor, some_descriptor, find_descriptor, is_visible, is_segment_kind, is_gate_kind, has_limit, has_rights, can_be_read, can_be_written, rights_of, rights_answer, limit_answer, answered, lar_row, lsl_row, is_verified_read, is_verified_write, verr_row, verw_row, raised, arpl_row};
+ghost use Rattle.xe_desc.specs.Query.{zero_written, has_descriptor, some_descriptor, find_descriptor, is_visible, is_segment_kind, is_gate_kind, has_limit, has_rights, can_be_read, can_be_written, rights_of, rights_answer, limit_answer, answered, lar_row, lsl_row, is_verified, verify_row, raised, arpl_row};
 
 use crate::descriptor_table::{fetch_descriptor, is_in_table};
 use crate::load::selector;
@@ -196,58 +196,33 @@ pub fn lsl<B: Bus, I: Intercepts>(
     Ok(done(insn, cpu))
 }
 
-/// Whether VERR finds that the segment can be read.
-fn is_verified_read(cpu: &Cpu, sel: u16, found: Option<Descriptor>) -> bool
-    ensures { result ≡ is_verified_read cpu.now sel found }
+/// Whether VERW finds that the segment can be written, or VERR that it can be read.
+fn is_verified(write: bool, cpu: &Cpu, sel: u16, found: Option<Descriptor>) -> bool
+    ensures { result ≡ is_verified write cpu.now sel found }
 {
     match found {
         None => false,
+        Some(desc) if write => can_be_written(&desc) && is_visible(cpu, sel, &desc),
         Some(desc) => can_be_read(&desc) && is_visible(cpu, sel, &desc),
     }
 }
 
-/// Whether VERW finds that the segment can be written.
-fn is_verified_write(cpu: &Cpu, sel: u16, found: Option<Descriptor>) -> bool
-    ensures { result ≡ is_verified_write cpu.now sel found }
-{
-    match found {
-        None => false,
-        Some(desc) => can_be_written(&desc) && is_visible(cpu, sel, &desc),
-    }
-}
-
-/// VERR (SDM volume 2, "VERR/VERW—Verify a Segment for Reading or Writing").
-pub fn verr<B: Bus, I: Intercepts>(
+/// VERR, or VERW, which asks for `write` (SDM volume 2, "VERR/VERW—Verify a Segment for Reading or
+/// Writing").
+pub fn verify<B: Bus, I: Intercepts>(
+    write: bool,
     insn: &Insn,
     ctx: &mut Ctx<B, I>,
     cpu: &mut Cpu,
 ) -> Result<End, Stop>
     requires { IsReady B.sight insn.now ctx.old cpu.old 8 20 }
-    ensures { Finishes B.sight I.hits (verr_row insn.now (cpu_of ctx.old)) ctx.old result cpu.new ctx.new }
+    ensures { Finishes B.sight I.hits (verify_row write insn.now (cpu_of ctx.old)) ctx.old result cpu.new ctx.new }
 {
     outside_real_mode(ctx)?;
     let value = read_operand(insn, ctx, operand_of(insn, cpu), 2)?;
     let sel = selector(value);
     let found = find_descriptor(ctx, sel)?;
-    let verified = is_verified_read(cpu, sel, found);
-    set_zero(cpu, verified);
-    Ok(done(insn, cpu))
-}
-
-/// VERW (SDM volume 2, "VERR/VERW—Verify a Segment for Reading or Writing").
-pub fn verw<B: Bus, I: Intercepts>(
-    insn: &Insn,
-    ctx: &mut Ctx<B, I>,
-    cpu: &mut Cpu,
-) -> Result<End, Stop>
-    requires { IsReady B.sight insn.now ctx.old cpu.old 8 20 }
-    ensures { Finishes B.sight I.hits (verw_row insn.now (cpu_of ctx.old)) ctx.old result cpu.new ctx.new }
-{
-    outside_real_mode(ctx)?;
-    let value = read_operand(insn, ctx, operand_of(insn, cpu), 2)?;
-    let sel = selector(value);
-    let found = find_descriptor(ctx, sel)?;
-    let verified = is_verified_write(cpu, sel, found);
+    let verified = is_verified(write, cpu, sel, found);
     set_zero(cpu, verified);
     Ok(done(insn, cpu))
 }

@@ -10,7 +10,7 @@ ghost use Rattle.xe_ctx.specs.Runs.{finished};
 ghost use Rattle.xe_desc.specs.Rows.{is_row, row_of};
 
 use crate::load::{far_pointer, movseg, popseg};
-use crate::query::{arpl, lar, lsl, verr, verw};
+use crate::query::{arpl, lar, lsl, verify};
 use crate::task::{lldt, ltr, sldt, str};
 use xe_base::{Cpu, SegName};
 use xe_ctx::{Bus, Ctx, End, Flow, Stop};
@@ -66,8 +66,8 @@ fn run_row<B: Bus, I: Intercepts>(
         Row::Ltr => ltr(insn, ctx, cpu),
         Row::Lar => lar(insn, ctx, cpu),
         Row::Lsl => lsl(insn, ctx, cpu),
-        Row::Verr => verr(insn, ctx, cpu),
-        Row::Verw => verw(insn, ctx, cpu),
+        Row::Verr => verify(false, insn, ctx, cpu),
+        Row::Verw => verify(true, insn, ctx, cpu),
         Row::Arpl => arpl(insn, ctx, cpu),
         _ => unreachable!(),
     }
