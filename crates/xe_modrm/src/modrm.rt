@@ -15,6 +15,7 @@ use crate::sib_byte::SibByte;
 use xe_base::{CodeSize, Word};
 
 /// Whether addresses have 16 bits.
+#[inline(always)]
 fn is_short(size: CodeSize, other: bool) -> bool
     ensures { result ≡ is_short size other }
 {
@@ -26,6 +27,7 @@ fn is_short(size: CodeSize, other: bool) -> bool
 }
 
 /// Bit k of REX, as 8 more to a register number.
+#[inline(always)]
 fn eight(rex: Option<u8>, k: u32) -> u8
     requires { k < 8 }
     ensures value { result ≡ eight rex k }
@@ -38,6 +40,7 @@ fn eight(rex: Option<u8>, k: u32) -> u8
 }
 
 /// Whether a SIB byte follows a ModRM byte.
+#[inline(always)]
 fn has_sib(short: bool, m: ModRmByte) -> bool
     ensures { result ≡ has_sib short m.byte }
 {
@@ -45,6 +48,7 @@ fn has_sib(short: bool, m: ModRmByte) -> bool
 }
 
 /// How many bytes the displacement has.
+#[inline(always)]
 fn disp_len(short: bool, m: ModRmByte, sib: SibByte) -> usize
     ensures value { result ≡ disp_len short m.byte sib.byte }
     ensures bound { result ≤ 4 }
@@ -69,6 +73,7 @@ fn disp_len(short: bool, m: ModRmByte, sib: SibByte) -> usize
 }
 
 /// One byte.
+#[inline(always)]
 fn byte(bytes: &[u8]) -> Part<u8>
     ensures value { result ≡ one_byte bytes.now }
     ensures within { Within result bytes.now }
@@ -80,6 +85,7 @@ fn byte(bytes: &[u8]) -> Part<u8>
 }
 
 /// The SIB byte, or 0 where there is none.
+#[inline(always)]
 fn sib(wanted: bool, bytes: &[u8]) -> Part<u8>
     ensures value { result ≡ sib_part wanted bytes.now }
     ensures within { Within result bytes.now }
@@ -89,6 +95,7 @@ fn sib(wanted: bool, bytes: &[u8]) -> Part<u8>
 
 /// The number that 0, 1, 2 or 4 bytes are, the lowest first.
 #[tactic(auto, unfolding(xe_base::specs::Bytes::num))]
+#[inline(always)]
 fn number(bytes: &[u8]) -> u64
     requires bound { length bytes.now ≤ 4 }
     requires size { length bytes.now ≢ 3 }
@@ -105,6 +112,7 @@ fn number(bytes: &[u8]) -> u64
 }
 
 /// The signed number of 0, 1, 2 or 4 bytes.
+#[inline(always)]
 fn signed(n: usize, number: u64) -> i64
     requires bound { n ≤ 4 }
     requires size { n ≢ 3 }
@@ -121,6 +129,7 @@ fn signed(n: usize, number: u64) -> i64
 }
 
 /// The displacement of n bytes, as a signed number of its size.
+#[inline(always)]
 fn displacement(n: usize, bytes: &[u8]) -> Part<i64>
     requires bound { n ≤ 4 }
     requires size { n ≢ 3 }
@@ -134,6 +143,7 @@ fn displacement(n: usize, bytes: &[u8]) -> Part<i64>
 }
 
 /// Base and index of a 16-bit address.
+#[inline(always)]
 fn short_registers(m: ModRmByte) -> (Option<u8>, Option<u8>)
     ensures base { result.0 ≡ short_base m.byte }
     ensures index { result.1 ≡ short_index m.byte }
@@ -154,6 +164,7 @@ fn short_registers(m: ModRmByte) -> (Option<u8>, Option<u8>)
 }
 
 /// The base of a 32-bit or 64-bit address.
+#[inline(always)]
 fn long_base(rex: Option<u8>, m: ModRmByte, sib: SibByte) -> Option<u8>
     ensures value { result ≡ long_base rex m.byte sib.byte }
     ensures range { IfSome result (λ b. b < 16) }
@@ -167,6 +178,7 @@ fn long_base(rex: Option<u8>, m: ModRmByte, sib: SibByte) -> Option<u8>
 }
 
 /// Index and scale of a 32-bit or 64-bit address.
+#[inline(always)]
 fn long_index(rex: Option<u8>, m: ModRmByte, sib: SibByte) -> (Option<u8>, u8)
     ensures index { result.0 ≡ long_index rex m.byte sib.byte }
     ensures scale { result.1 ≡ long_scale rex m.byte sib.byte }
@@ -182,6 +194,7 @@ fn long_index(rex: Option<u8>, m: ModRmByte, sib: SibByte) -> (Option<u8>, u8)
 
 /// What a ModRM byte means together with its SIB byte and displacement.
 #[tactic(auto, unfolding(crate::specs::Operand::operand_of))]
+#[inline(always)]
 fn meaning(size: CodeSize, pre: &Prefixes, m: ModRmByte, sib: SibByte, disp: i64) -> ModRm
     ensures value { result ≡ operand_of size pre.now m.byte sib.byte disp }
     ensures valid { IsModRm result }
@@ -212,6 +225,7 @@ fn meaning(size: CodeSize, pre: &Prefixes, m: ModRmByte, sib: SibByte, disp: i64
 
 /// What follows a ModRM byte.
 #[tactic(auto, unfolding(crate::specs::Operand::operand_after))]
+#[inline(always)]
 fn operand_after(size: CodeSize, pre: &Prefixes, m: ModRmByte, bytes: &[u8]) -> Part<ModRm>
     ensures value { result ≡ operand_after size pre.now m.byte bytes.now }
     ensures within { Within result bytes.now }
@@ -238,6 +252,7 @@ fn operand_after(size: CodeSize, pre: &Prefixes, m: ModRmByte, bytes: &[u8]) -> 
 /// 2 or 4 bytes (SDM volume 2, sections 2.1.5 and 2.2.1). `More` comes exactly where the bytes end
 /// before the operand does.
 #[tactic(auto, unfolding(crate::specs::Operand::operand_part))]
+#[inline(always)]
 pub fn operand(size: CodeSize, pre: &Prefixes, bytes: &[u8]) -> Part<ModRm>
     ensures value { result ≡ operand_part size pre.now bytes.now }
     ensures within { Within result bytes.now }

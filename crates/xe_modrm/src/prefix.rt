@@ -9,6 +9,7 @@ use crate::part::{Part, Prefixes};
 use xe_base::{CodeSize, SegName};
 
 /// Whether the code is 64-bit.
+#[inline(always)]
 pub(crate) fn is_64_bit(size: CodeSize) -> bool
     ensures { result ≡ is_64_bit size }
 {
@@ -19,6 +20,7 @@ pub(crate) fn is_64_bit(size: CodeSize) -> bool
 }
 
 /// The prefixes with another segment.
+#[inline(always)]
 fn with_seg(found: Prefixes, seg: SegName) -> Prefixes
     ensures { result ≡ record found { seg = Some seg } }
 {
@@ -29,6 +31,7 @@ fn with_seg(found: Prefixes, seg: SegName) -> Prefixes
 }
 
 /// The prefixes with one more prefix byte, or None for a byte that is none.
+#[inline(always)]
 fn noted(size: CodeSize, found: Prefixes, byte: u8) -> Option<Prefixes>
     ensures { result ≡ (if is_prefix size byte then Some (prefixes_then size found byte) else None) }
 {
@@ -71,6 +74,7 @@ fn noted(size: CodeSize, found: Prefixes, byte: u8) -> Option<Prefixes>
 /// directly before the opcode and is ignored elsewhere among the prefixes, and 2E, 36, 3E and 26
 /// are ignored and cancel nothing (SDM volume 2, sections 2.1.1 and 2.2.1). `More` comes exactly
 /// where every byte is a prefix byte, so that the opcode is missing.
+#[inline(always)]
 pub fn prefixes(size: CodeSize, bytes: &[u8]) -> Part<Prefixes>
     ensures value { result ≡ prefix_part size bytes.now }
     ensures within { Within result bytes.now }

@@ -21,6 +21,7 @@ use xe_modrm::{ModRm, ModRmByte, Part, Prefixes, operand, prefixes};
 
 /// The immediates, after which the instruction is judged.
 #[tactic(auto, unfolding(crate::specs::Encoding::immediates_part))]
+#[inline(always)]
 fn immediates_part(
     size: CodeSize,
     pre: &Prefixes,
@@ -50,6 +51,7 @@ fn immediates_part(
 }
 
 /// One byte.
+#[inline(always)]
 fn byte(bytes: &[u8]) -> Part<u8>
     ensures value { result ≡ one_byte bytes.now }
     ensures within { Within result bytes.now }
@@ -63,6 +65,7 @@ fn byte(bytes: &[u8]) -> Part<u8>
 
 /// The operand of MOV to and from control registers, whose mod is read as 3.
 #[tactic(auto, unfolding(crate::specs::Encoding::modrm_part))]
+#[inline(never)]
 fn control_operand(size: CodeSize, pre: &Prefixes, bytes: &[u8]) -> Part<ModRm>
     ensures value { result ≡ modrm_part size pre.now OperandKind.Control bytes.now }
     ensures within { Within result bytes.now }
@@ -80,6 +83,7 @@ fn control_operand(size: CodeSize, pre: &Prefixes, bytes: &[u8]) -> Part<ModRm>
 
 /// The ModRM byte, and what follows it in the operand.
 #[tactic(auto, unfolding(crate::specs::Encoding::modrm_part, crate::specs::Encoding::operand_rest, xe_modrm::specs::Operand::operand_part))]
+#[inline(always)]
 fn modrm_part(size: CodeSize, pre: &Prefixes, kind: OperandKind, bytes: &[u8]) -> Part<ModRm>
     ensures value { result ≡ modrm_part size pre.now kind bytes.now }
     ensures within { Within result bytes.now }
@@ -98,6 +102,7 @@ fn modrm_part(size: CodeSize, pre: &Prefixes, kind: OperandKind, bytes: &[u8]) -
 
 /// A row with a ModRM byte, after its opcode.
 #[tactic(auto, unfolding(crate::specs::Encoding::operand_row, crate::specs::Encoding::after_operand), using(crate::proofs::NeedLaws::kind_is))]
+#[inline(always)]
 fn operand_row(
     size: CodeSize,
     pre: &Prefixes,
@@ -126,6 +131,7 @@ fn operand_row(
 
 /// A row, after its opcode.
 #[tactic(auto, unfolding(crate::specs::Encoding::row_part), using(crate::proofs::NeedLaws::kind_none))]
+#[inline(always)]
 fn row_part(size: CodeSize, pre: &Prefixes, op: u16, form: &InsnForm, bytes: &[u8]) -> Part<Verdict>
     requires prefixes { IsPrefixes size pre.now }
     requires opcode { IsOpcode op }
@@ -142,6 +148,7 @@ fn row_part(size: CodeSize, pre: &Prefixes, op: u16, form: &InsnForm, bytes: &[u
 }
 
 /// Whether an opcode is invalid in 64-bit code.
+#[inline(always)]
 fn is_bad_in_64_bit(op: u16) -> bool
     ensures { result ≡ bad_in_64_bit op }
 {
@@ -187,6 +194,7 @@ fn swapgs_cell(in_64_bit: bool) -> OpcodeCell
 
 /// What an opcode with the ModRM byte m is, where the reg field belongs to the opcode.
 #[tactic(auto, unfolding(crate::specs::Encoding::group_cell))]
+#[inline(always)]
 fn group_cell(conditions: MapConditions, op: u16, m: u8) -> OpcodeCell
     requires { IsOpcode op }
     ensures value { result ≡ group_cell conditions op m }
@@ -200,6 +208,7 @@ fn group_cell(conditions: MapConditions, op: u16, m: u8) -> OpcodeCell
 
 /// The ModRM byte of a group, and what follows it.
 #[tactic(auto, unfolding(crate::specs::Encoding::group_part))]
+#[inline(always)]
 fn group_part(size: CodeSize, pre: &Prefixes, op: u16, bytes: &[u8]) -> Part<Verdict>
     requires opcode { IsOpcode op }
     requires prefixes { IsPrefixes size pre.now }
@@ -219,6 +228,7 @@ fn group_part(size: CodeSize, pre: &Prefixes, op: u16, bytes: &[u8]) -> Part<Ver
 
 /// What a place of the opcode maps says.
 #[tactic(auto, unfolding(crate::specs::Encoding::cell_part))]
+#[inline(always)]
 fn cell_part(
     size: CodeSize,
     pre: &Prefixes,
@@ -242,6 +252,7 @@ fn cell_part(
 
 /// What follows an opcode.
 #[tactic(auto, unfolding(crate::specs::Encoding::after_opcode))]
+#[inline(always)]
 fn after_opcode(size: CodeSize, pre: &Prefixes, op: u16, bytes: &[u8]) -> Part<Verdict>
     requires opcode { IsOpcode op }
     requires prefixes { IsPrefixes size pre.now }
@@ -266,6 +277,7 @@ fn after_opcode(size: CodeSize, pre: &Prefixes, op: u16, bytes: &[u8]) -> Part<V
 
 /// What follows the first byte of an opcode: 0F has a second one.
 #[tactic(auto, unfolding(crate::specs::Encoding::after_first_byte))]
+#[inline(always)]
 fn after_first_byte(size: CodeSize, pre: &Prefixes, first: u8, bytes: &[u8]) -> Part<Verdict>
     requires { IsPrefixes size pre.now }
     ensures value { result ≡ after_first_byte size pre.now first bytes.now }
@@ -286,6 +298,7 @@ fn after_first_byte(size: CodeSize, pre: &Prefixes, first: u8, bytes: &[u8]) -> 
 
 /// What some bytes begin with, and how many of them decide it.
 #[tactic(auto, unfolding(crate::specs::Encoding::decode_part))]
+#[inline(always)]
 fn decode_part(size: CodeSize, bytes: &[u8]) -> Part<Verdict>
     ensures value { result ≡ decode_part size bytes.now }
     ensures within { Within result bytes.now }
@@ -307,6 +320,7 @@ fn decode_part(size: CodeSize, bytes: &[u8]) -> Part<Verdict>
 }
 
 /// The answer of the decoder.
+#[inline(always)]
 fn answer(size: CodeSize, bytes: &[u8]) -> Decoded
     requires { length bytes.now ≤ 15 }
     ensures value { result ≡ finished (decode_part size bytes.now) }

@@ -12,6 +12,7 @@ use xe_base::Word;
 use xe_modrm::Part;
 
 /// How many bytes an iz immediate has.
+#[inline(always)]
 fn full_len(opsize: u8) -> usize
     ensures value { result ≡ full_len opsize }
     ensures count { IsCount result }
@@ -20,6 +21,7 @@ fn full_len(opsize: u8) -> usize
 }
 
 /// How many bytes the second immediate has.
+#[inline(always)]
 fn second_len(imm: ImmediateKind) -> usize
     ensures value { result ≡ second_len imm }
     ensures count { IsCount result }
@@ -40,6 +42,7 @@ fn second_len(imm: ImmediateKind) -> usize
 
 /// A number of n bytes, the lowest first.
 #[tactic(auto, unfolding(xe_base::specs::Bytes::num))]
+#[inline(always)]
 fn number(n: usize, bytes: &[u8]) -> Part<u64>
     requires { IsCount n }
     ensures value { result ≡ number_part n bytes.now }
@@ -61,6 +64,7 @@ fn number(n: usize, bytes: &[u8]) -> Part<u64>
 }
 
 /// The signed number of n bytes.
+#[inline(always)]
 fn signed(n: usize, x: u64) -> i128
     requires n { IsTrue (n == 1 || n == 2 || n == 4) }
     requires number { x < 2 ^ (8 * n) }
@@ -75,6 +79,7 @@ fn signed(n: usize, x: u64) -> i128
 }
 
 /// A whole number cut to the operand size.
+#[inline(always)]
 fn wrapped(number: i128, opsize: u8) -> u64
     requires { IsSize opsize }
     ensures value { result ≡ wrapped (8 * opsize) number }
@@ -89,6 +94,7 @@ fn wrapped(number: i128, opsize: u8) -> u64
 }
 
 /// A number of n bytes, sign-extended to the operand size.
+#[inline(always)]
 fn extended(n: usize, opsize: u8, x: u64) -> u64
     requires opsize { IsSize opsize }
     requires n { IsTrue (n == 1 || n == 2 || n == 4) }
@@ -100,6 +106,7 @@ fn extended(n: usize, opsize: u8, x: u64) -> u64
 }
 
 /// The second immediate.
+#[inline(always)]
 pub fn second(imm: ImmediateKind, bytes: &[u8]) -> Part<u16>
     ensures value { result ≡ second_part imm bytes.now }
     ensures within { Within result bytes.now }
@@ -111,6 +118,7 @@ pub fn second(imm: ImmediateKind, bytes: &[u8]) -> Part<u16>
 }
 
 /// A number of n bytes, sign-extended to the operand size.
+#[inline(always)]
 fn extended_number(n: usize, opsize: u8, bytes: &[u8]) -> Part<u64>
     requires opsize { IsSize opsize }
     requires n { IsTrue (n == 1 || n == 2 || n == 4) }
@@ -125,6 +133,7 @@ fn extended_number(n: usize, opsize: u8, bytes: &[u8]) -> Part<u64>
 }
 
 /// The first immediate, by operand size and address size.
+#[inline(always)]
 pub fn first(opsize: u8, adsize: u8, imm: ImmediateKind, bytes: &[u8]) -> Part<u64>
     requires opsize { IsSize opsize }
     requires adsize { IsSize adsize }

@@ -14,6 +14,7 @@ use xe_base::CodeSize;
 use xe_modrm::{ModRm, Prefixes};
 
 /// Whether an operand is in memory.
+#[inline(always)]
 fn is_memory(modrm: &Option<ModRm>) -> bool
     ensures { result ≡ is_memory modrm.now }
 {
@@ -24,6 +25,7 @@ fn is_memory(modrm: &Option<ModRm>) -> bool
 }
 
 /// Whether there is a control register of this number.
+#[inline(always)]
 fn is_control(n: u8) -> bool
     ensures { result ≡ is_control n }
 {
@@ -31,6 +33,7 @@ fn is_control(n: u8) -> bool
 }
 
 /// Whether an operand is of a kind that its row doesn't have.
+#[inline(always)]
 fn wrong_operand(kind: OperandKind, modrm: &Option<ModRm>) -> bool
     ensures { result ≡ wrong_operand kind modrm.now }
 {
@@ -47,6 +50,7 @@ fn wrong_operand(kind: OperandKind, modrm: &Option<ModRm>) -> bool
 }
 
 /// Whether LOCK isn't allowed, or the operand is of a wrong kind.
+#[inline(always)]
 fn is_wrong(pre: &Prefixes, form: &InsnForm, modrm: &Option<ModRm>) -> bool
     ensures { result ≡ is_wrong pre.now form.now modrm.now }
 {
@@ -56,6 +60,7 @@ fn is_wrong(pre: &Prefixes, form: &InsnForm, modrm: &Option<ModRm>) -> bool
 
 /// Judges a whole instruction.
 #[tactic(auto, using(crate::proofs::NeedLaws::need_is), unfolding(crate::specs::Encoding::judged))]
+#[inline(always)]
 pub fn judged(
     size: CodeSize,
     pre: &Prefixes,
@@ -91,6 +96,7 @@ pub fn judged(
 }
 
 /// Whether no row goes on with an operand.
+#[inline(always)]
 pub fn ends_outside(kind: OperandKind, modrm: &ModRm) -> bool
     ensures { result ≡ ends_outside kind modrm.now }
 {
@@ -106,6 +112,7 @@ pub fn ends_outside(kind: OperandKind, modrm: &ModRm) -> bool
 }
 
 /// Whether a ModRM byte follows the opcode.
+#[inline(always)]
 pub fn has_modrm(kind: OperandKind) -> bool
     ensures { result ≡ has_modrm kind }
 {

@@ -10,6 +10,7 @@ use crate::groups::GROUPS;
 use crate::opcodes::{ONE_BYTE, TWO_BYTE};
 
 /// The place of an opcode in its map.
+#[inline(always)]
 fn entry(op: u16) -> MapEntry
     requires { IsOpcode op }
     ensures { result ≡ entry_of op }
@@ -23,6 +24,7 @@ fn entry(op: u16) -> MapEntry
 }
 
 /// Whether the reg field of a ModRM byte belongs to the opcode.
+#[inline(always)]
 pub fn needs_reg(op: u16) -> bool
     requires { IsOpcode op }
     ensures { result ≡ needs_reg op }
@@ -37,6 +39,7 @@ pub fn needs_reg(op: u16) -> bool
 }
 
 /// What the tables have for an opcode and a reg field.
+#[inline(always)]
 fn cell_of(conditions: MapConditions, op: u16, reg: u8) -> OpcodeCell
     requires opcode { IsOpcode op }
     requires reg { reg < 8 }
@@ -64,6 +67,7 @@ fn cell_of(conditions: MapConditions, op: u16, reg: u8) -> OpcodeCell
 }
 
 /// What an opcode says with this reg field.
+#[inline(always)]
 pub fn cell_at(conditions: MapConditions, op: u16, reg: u8) -> OpcodeCell
     requires opcode { IsOpcode op }
     requires reg { reg < 8 }

@@ -9,6 +9,7 @@ use xe_base::CodeSize;
 use xe_modrm::Prefixes;
 
 /// Whether the code is 64-bit.
+#[inline(always)]
 pub fn is_64_bit(size: CodeSize) -> bool
     ensures { result ≡ is_64_bit size }
 {
@@ -19,6 +20,7 @@ pub fn is_64_bit(size: CodeSize) -> bool
 }
 
 /// Bit k of REX.
+#[inline(always)]
 pub fn rex_bit(rex: Option<u8>, k: u32) -> bool
     requires { k < 8 }
     ensures { result ≡ rex_bit rex k }
@@ -30,6 +32,7 @@ pub fn rex_bit(rex: Option<u8>, k: u32) -> bool
 }
 
 /// What the opcode maps look at beside opcode and reg field.
+#[inline(always)]
 pub fn conditions_of(size: CodeSize, pre: &Prefixes) -> MapConditions
     ensures { result ≡ conditions_of size pre.now }
 {
@@ -41,6 +44,7 @@ pub fn conditions_of(size: CodeSize, pre: &Prefixes) -> MapConditions
 }
 
 /// Operand size in bytes.
+#[inline(always)]
 pub fn opsize_of(size: CodeSize, pre: &Prefixes, width: SizeIn64Bit) -> u8
     ensures value { result ≡ opsize_of size pre.now width }
     ensures sizes { IsSize result }
@@ -63,6 +67,7 @@ pub fn opsize_of(size: CodeSize, pre: &Prefixes, width: SizeIn64Bit) -> u8
 }
 
 /// Address size in bytes.
+#[inline(always)]
 pub fn adsize_of(size: CodeSize, other: bool) -> u8
     ensures value { result ≡ adsize_of size other }
     ensures sizes { IsSize result }
