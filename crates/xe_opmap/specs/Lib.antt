@@ -4,5 +4,6 @@ pub mod Lookup
 pub mod Immediate
 pub mod Encoding
 pub mod Valid
+pub mod Draft
 pub mod Relations
 pub mod Parts

@@ -6,12 +6,13 @@ ghost use Rattle.xe_opmap.specs.Table.{bad_in_64_bit, IsOpcode};
 ghost use Rattle.std.specs.Option.{ForSome};
 ghost use Rattle.xe_modrm.specs.Valid.{IsPrefixes, IsModRm};
 ghost use Rattle.xe_opmap.specs.Valid.{is_kind, control_fits, IsFormOf, IsGotOperand, IsCellOf, IsGotVerdict, TakesSome, IsDecoded};
+ghost use Rattle.xe_opmap.specs.Draft.{drafted};
 ghost use Rattle.xe_opmap.specs.Relations.{Answers};
 ghost use Rattle.xe_opmap.specs.Encoding.{immediates_part, modrm_part, operand_row, row_part, is_swapgs, swapgs_cell, group_cell, group_part, cell_part, after_opcode, after_first_byte, decode_part, finished};
 
 use crate::form::{ImmediateKind, InsnForm, MapConditions, OpcodeCell, OperandKind, SizeIn64Bit};
 use crate::immediate::{first, second};
-use crate::insn::{Decoded, Insn, Verdict};
+use crate::insn::{Decoded, Insn, Judgement};
 use crate::judge::{ends_outside, has_modrm, judged};
 use crate::lookup::{cell_at, needs_reg};
 use crate::row::Row;
@@ -29,15 +30,16 @@ fn immediates_part(
     form: &InsnForm,
     modrm: Option<ModRm>,
     bytes: &[u8],
-) -> Part<Verdict>
+    draft: &mut Insn,
+) -> Part<Judgement>
     requires prefixes { IsPrefixes size pre.now }
     requires opcode { IsOpcode op }
     requires modrm { ForSome modrm IsModRm }
     requires kind { is_kind form.now.operand modrm ≡ true }
     requires form { IsFormOf op form.now }
-    ensures value { result ≡ immediates_part size pre.now op form.now modrm bytes.now }
+    ensures value { drafted result draft.new ≡ immediates_part size pre.now op form.now modrm bytes.now }
     ensures within { Within result bytes.now }
-    ensures valid { IsGotVerdict size result }
+    ensures valid { IsGotVerdict size (drafted result draft.new) }
 {
     let opsize = opsize_of(size, pre, form.size);
     let adsize = adsize_of(size, pre.adsize);
@@ -47,7 +49,10 @@ fn immediates_part(
     let Part::Got(imm2, more) = second(form.imm, &bytes[used..]) else {
         return Part::More;
     };
-    Part::Got(judged(size, pre, op, form, modrm, imm, imm2), used + more)
+    Part::Got(
+        judged(size, pre, op, form, modrm, imm, imm2, draft),
+        used + more,
+    )
 }
 
 /// One byte.
@@ -109,21 +114,22 @@ fn operand_row(
     op: u16,
     form: &InsnForm,
     bytes: &[u8],
-) -> Part<Verdict>
+    draft: &mut Insn,
+) -> Part<Judgement>
     requires prefixes { IsPrefixes size pre.now }
     requires opcode { IsOpcode op }
     requires form { IsFormOf op form.now }
-    ensures value { result ≡ operand_row size pre.now op form.now bytes.now }
+    ensures value { drafted result draft.new ≡ operand_row size pre.now op form.now bytes.now }
     ensures within { Within result bytes.now }
-    ensures valid { IsGotVerdict size result }
+    ensures valid { IsGotVerdict size (drafted result draft.new) }
 {
     let Part::Got(modrm, used) = modrm_part(size, pre, form.operand, bytes) else {
         return Part::More;
     };
     if ends_outside(form.operand, &modrm) {
-        return Part::Got(Verdict::Outside, used);
+        return Part::Got(Judgement::Outside, used);
     }
-    match immediates_part(size, pre, op, form, Some(modrm), &bytes[used..]) {
+    match immediates_part(size, pre, op, form, Some(modrm), &bytes[used..], draft) {
         Part::Got(verdict, more) => Part::Got(verdict, used + more),
         Part::More => Part::More,
     }
@@ -132,18 +138,25 @@ fn operand_row(
 /// A row, after its opcode.
 #[tactic(auto, unfolding(crate::specs::Encoding::row_part), using(crate::proofs::NeedLaws::kind_none))]
 #[inline(always)]
-fn row_part(size: CodeSize, pre: &Prefixes, op: u16, form: &InsnForm, bytes: &[u8]) -> Part<Verdict>
+fn row_part(
+    size: CodeSize,
+    pre: &Prefixes,
+    op: u16,
+    form: &InsnForm,
+    bytes: &[u8],
+    draft: &mut Insn,
+) -> Part<Judgement>
     requires prefixes { IsPrefixes size pre.now }
     requires opcode { IsOpcode op }
     requires form { IsFormOf op form.now }
-    ensures value { result ≡ row_part size pre.now op form.now bytes.now }
+    ensures value { drafted result draft.new ≡ row_part size pre.now op form.now bytes.now }
     ensures within { Within result bytes.now }
-    ensures valid { IsGotVerdict size result }
+    ensures valid { IsGotVerdict size (drafted result draft.new) }
 {
     if has_modrm(form.operand) {
-        operand_row(size, pre, op, form, bytes)
+        operand_row(size, pre, op, form, bytes, draft)
     } else {
-        immediates_part(size, pre, op, form, None, bytes)
+        immediates_part(size, pre, op, form, None, bytes, draft)
     }
 }
 
@@ -209,20 +222,26 @@ fn group_cell(conditions: MapConditions, op: u16, m: u8) -> OpcodeCell
 /// The ModRM byte of a group, and what follows it.
 #[tactic(auto, unfolding(crate::specs::Encoding::group_part))]
 #[inline(always)]
-fn group_part(size: CodeSize, pre: &Prefixes, op: u16, bytes: &[u8]) -> Part<Verdict>
+fn group_part(
+    size: CodeSize,
+    pre: &Prefixes,
+    op: u16,
+    bytes: &[u8],
+    draft: &mut Insn,
+) -> Part<Judgement>
     requires opcode { IsOpcode op }
     requires prefixes { IsPrefixes size pre.now }
-    ensures value { result ≡ group_part size pre.now op bytes.now }
+    ensures value { drafted result draft.new ≡ group_part size pre.now op bytes.now }
     ensures within { Within result bytes.now }
-    ensures valid { IsGotVerdict size result }
+    ensures valid { IsGotVerdict size (drafted result draft.new) }
 {
     let Part::Got(m, used) = byte(bytes) else {
         return Part::More;
     };
     match group_cell(conditions_of(size, pre), op, m) {
-        OpcodeCell::Outside => Part::Got(Verdict::Outside, used),
-        OpcodeCell::Invalid => Part::Got(Verdict::Invalid, used),
-        OpcodeCell::Form(form) => operand_row(size, pre, op, &form, bytes),
+        OpcodeCell::Outside => Part::Got(Judgement::Outside, used),
+        OpcodeCell::Invalid => Part::Got(Judgement::Invalid, used),
+        OpcodeCell::Form(form) => operand_row(size, pre, op, &form, bytes, draft),
     }
 }
 
@@ -235,36 +254,43 @@ fn cell_part(
     op: u16,
     cell: OpcodeCell,
     bytes: &[u8],
-) -> Part<Verdict>
+    draft: &mut Insn,
+) -> Part<Judgement>
     requires prefixes { IsPrefixes size pre.now }
     requires opcode { IsOpcode op }
     requires cell { IsCellOf op cell }
-    ensures value { result ≡ cell_part size pre.now op cell bytes.now }
+    ensures value { drafted result draft.new ≡ cell_part size pre.now op cell bytes.now }
     ensures within { Within result bytes.now }
-    ensures valid { IsGotVerdict size result }
+    ensures valid { IsGotVerdict size (drafted result draft.new) }
 {
     match cell {
-        OpcodeCell::Outside => Part::Got(Verdict::Outside, 0),
-        OpcodeCell::Invalid => Part::Got(Verdict::Invalid, 0),
-        OpcodeCell::Form(form) => row_part(size, pre, op, &form, bytes),
+        OpcodeCell::Outside => Part::Got(Judgement::Outside, 0),
+        OpcodeCell::Invalid => Part::Got(Judgement::Invalid, 0),
+        OpcodeCell::Form(form) => row_part(size, pre, op, &form, bytes, draft),
     }
 }
 
 /// What follows an opcode.
 #[tactic(auto, unfolding(crate::specs::Encoding::after_opcode))]
 #[inline(always)]
-fn after_opcode(size: CodeSize, pre: &Prefixes, op: u16, bytes: &[u8]) -> Part<Verdict>
+fn after_opcode(
+    size: CodeSize,
+    pre: &Prefixes,
+    op: u16,
+    bytes: &[u8],
+    draft: &mut Insn,
+) -> Part<Judgement>
     requires opcode { IsOpcode op }
     requires prefixes { IsPrefixes size pre.now }
-    ensures value { result ≡ after_opcode size pre.now op bytes.now }
+    ensures value { drafted result draft.new ≡ after_opcode size pre.now op bytes.now }
     ensures within { Within result bytes.now }
-    ensures valid { IsGotVerdict size result }
+    ensures valid { IsGotVerdict size (drafted result draft.new) }
 {
     if is_64_bit(size) & is_bad_in_64_bit(op) {
-        return Part::Got(Verdict::Invalid, 0);
+        return Part::Got(Judgement::Invalid, 0);
     }
     if needs_reg(op) {
-        return group_part(size, pre, op, bytes);
+        return group_part(size, pre, op, bytes, draft);
     }
     cell_part(
         size,
@@ -272,25 +298,32 @@ fn after_opcode(size: CodeSize, pre: &Prefixes, op: u16, bytes: &[u8]) -> Part<V
         op,
         cell_at(conditions_of(size, pre), op, 0),
         bytes,
+        draft,
     )
 }
 
 /// What follows the first byte of an opcode: 0F has a second one.
 #[tactic(auto, unfolding(crate::specs::Encoding::after_first_byte))]
 #[inline(always)]
-fn after_first_byte(size: CodeSize, pre: &Prefixes, first: u8, bytes: &[u8]) -> Part<Verdict>
+fn after_first_byte(
+    size: CodeSize,
+    pre: &Prefixes,
+    first: u8,
+    bytes: &[u8],
+    draft: &mut Insn,
+) -> Part<Judgement>
     requires { IsPrefixes size pre.now }
-    ensures value { result ≡ after_first_byte size pre.now first bytes.now }
+    ensures value { drafted result draft.new ≡ after_first_byte size pre.now first bytes.now }
     ensures within { Within result bytes.now }
-    ensures valid { IsGotVerdict size result }
+    ensures valid { IsGotVerdict size (drafted result draft.new) }
 {
     if first != 0x0F {
-        return after_opcode(size, pre, first as u16, bytes);
+        return after_opcode(size, pre, first as u16, bytes, draft);
     }
     let Part::Got(second, used) = byte(bytes) else {
         return Part::More;
     };
-    match after_opcode(size, pre, 0x0F00 + second as u16, &bytes[used..]) {
+    match after_opcode(size, pre, 0x0F00 + second as u16, &bytes[used..], draft) {
         Part::Got(verdict, more) => Part::Got(verdict, used + more),
         Part::More => Part::More,
     }
@@ -299,10 +332,10 @@ fn after_first_byte(size: CodeSize, pre: &Prefixes, first: u8, bytes: &[u8]) -> 
 /// What some bytes begin with, and how many of them decide it.
 #[tactic(auto, unfolding(crate::specs::Encoding::decode_part))]
 #[inline(always)]
-fn decode_part(size: CodeSize, bytes: &[u8]) -> Part<Verdict>
-    ensures value { result ≡ decode_part size bytes.now }
+fn decode_part(size: CodeSize, bytes: &[u8], draft: &mut Insn) -> Part<Judgement>
+    ensures value { drafted result draft.new ≡ decode_part size bytes.now }
     ensures within { Within result bytes.now }
-    ensures valid { IsGotVerdict size result }
+    ensures valid { IsGotVerdict size (drafted result draft.new) }
     ensures some { TakesSome result }
 {
     let Part::Got(pre, used) = prefixes(size, bytes) else {
@@ -313,11 +346,31 @@ fn decode_part(size: CodeSize, bytes: &[u8]) -> Part<Verdict>
         return Part::More;
     };
     let used = used + more;
-    match after_first_byte(size, &pre, first, &rest[more..]) {
+    match after_first_byte(size, &pre, first, &rest[more..], draft) {
         Part::Got(verdict, more) => Part::Got(verdict, used + more),
         Part::More => Part::More,
     }
 }
+
+/// A draft before anything is known.
+const BLANK: Insn = Insn {
+    row: Row::Nop,
+    len: 0,
+    opcode: 0,
+    opsize: 0,
+    adsize: 0,
+    pre: Prefixes {
+        lock: false,
+        rep: 0,
+        seg: None,
+        opsize: false,
+        adsize: false,
+        rex: None,
+    },
+    modrm: None,
+    imm: 0,
+    imm2: 0,
+};
 
 /// The answer of the decoder.
 #[inline(always)]
@@ -326,13 +379,14 @@ fn answer(size: CodeSize, bytes: &[u8]) -> Decoded
     ensures value { result ≡ finished (decode_part size bytes.now) }
     ensures ranges { IsDecoded size result }
 {
-    match decode_part(size, bytes) {
-        Part::Got(Verdict::Valid(insn), len) => Decoded::Insn(Insn {
+    let mut draft = BLANK;
+    match decode_part(size, bytes, &mut draft) {
+        Part::Got(Judgement::Valid, len) => Decoded::Insn(Insn {
             len: len as u8,
-            ..insn
+            ..draft
         }),
-        Part::Got(Verdict::Invalid, len) => Decoded::Invalid(len as u8),
-        Part::Got(Verdict::Outside, _) => Decoded::Outside,
+        Part::Got(Judgement::Invalid, len) => Decoded::Invalid(len as u8),
+        Part::Got(Judgement::Outside, _) => Decoded::Outside,
         Part::More => Decoded::More,
     }
 }

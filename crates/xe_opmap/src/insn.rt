@@ -34,6 +34,15 @@ pub enum Verdict {
     Outside,
 }
 
+/// A verdict without its instruction, which stands in a draft beside it: a struct of this size is
+/// filled where it lies, not handed from function to function.
+#[derive(Clone, Copy, PartialEq, Eq, Debug)]
+pub enum Judgement {
+    Valid,
+    Invalid,
+    Outside,
+}
+
 /// What some bytes begin with.
 #[derive(Clone, Copy, PartialEq, Eq, Debug)]
 pub enum Decoded {

@@ -5,10 +5,11 @@ ghost use Rattle.std.specs.Option.{ForSome};
 ghost use Rattle.xe_modrm.specs.Valid.{IsPrefixes, IsModRm};
 ghost use Rattle.xe_opmap.specs.Table.{IsOpcode};
 ghost use Rattle.xe_opmap.specs.Valid.{imm_width, is_kind, IsFormOf, IsVerdict};
+ghost use Rattle.xe_opmap.specs.Draft.{verdict_of};
 ghost use Rattle.xe_opmap.specs.Encoding.{opsize_of, adsize_of, is_memory, is_control, wrong_operand, is_wrong, judged, ends_outside, has_modrm};
 
 use crate::form::{InsnForm, OperandKind};
-use crate::insn::{Insn, Verdict};
+use crate::insn::{Insn, Judgement};
 use crate::sizes::{adsize_of, opsize_of};
 use xe_base::CodeSize;
 use xe_modrm::{ModRm, Prefixes};
@@ -58,7 +59,7 @@ fn is_wrong(pre: &Prefixes, form: &InsnForm, modrm: &Option<ModRm>) -> bool
     (pre.lock & !locked) | wrong_operand(form.operand, modrm)
 }
 
-/// Judges a whole instruction.
+/// Judges a whole instruction, which is written to the draft where it is valid.
 #[tactic(auto, using(crate::proofs::NeedLaws::need_is), unfolding(crate::specs::Encoding::judged))]
 #[inline(always)]
 pub fn judged(
@@ -69,30 +70,30 @@ pub fn judged(
     modrm: Option<ModRm>,
     imm: u64,
     imm2: u16,
-) -> Verdict
+    draft: &mut Insn,
+) -> Judgement
     requires prefixes { IsPrefixes size pre.now }
     requires opcode { IsOpcode op }
     requires modrm { ForSome modrm IsModRm }
     requires imm { imm < 2 ^ (8 * imm_width (opsize_of size pre.now form.now.size) (adsize_of size pre.now.adsize) form.now.imm) }
     requires form { IsFormOf op form.now }
     requires kind { is_kind form.now.operand modrm ≡ true }
-    ensures value { result ≡ judged size pre.now op form.now modrm imm imm2 }
-    ensures valid { IsVerdict size result }
+    ensures value { verdict_of result draft.new ≡ judged size pre.now op form.now modrm imm imm2 }
+    ensures valid { IsVerdict size (verdict_of result draft.new) }
 {
     if is_wrong(pre, form, &modrm) {
-        return Verdict::Invalid;
+        return Judgement::Invalid;
     }
-    Verdict::Valid(Insn {
-        row: form.row,
-        len: 0,
-        opcode: op,
-        opsize: opsize_of(size, pre, form.size),
-        adsize: adsize_of(size, pre.adsize),
-        pre: *pre,
-        modrm,
-        imm,
-        imm2,
-    })
+    draft.row = form.row;
+    draft.len = 0;
+    draft.opcode = op;
+    draft.opsize = opsize_of(size, pre, form.size);
+    draft.adsize = adsize_of(size, pre.adsize);
+    draft.pre = *pre;
+    draft.modrm = modrm;
+    draft.imm = imm;
+    draft.imm2 = imm2;
+    Judgement::Valid
 }
 
 /// Whether no row goes on with an operand.
