@@ -3,3 +3,4 @@ pub mod ReaderLaws
 pub mod PartLaws
 pub mod ValidLaws
 pub mod OperandLaws
+pub mod RegisterLaws

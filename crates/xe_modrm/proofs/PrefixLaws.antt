@@ -1,6 +1,7 @@
 use Rattle.std.proofs.Common.{◌≡◌, ℕ, Bool, true, false, ◌||◌, List, [], ◌∷◌, ◌++◌, length, take, get_or, ◌<◌, ◌≤◌, ◌+◌, refl, sym, ◌∙◌, ap, cond, Option, Some, None}
 use Rattle.std.specs.Prelude.{◌==◌, unwrap_or}
 use Rattle.std.specs.List.{list_any, last_or, filter}
+use Rattle.std.proofs.lemmas.List.Sums.{prefix_len-drop_no}
 use Rattle.std.proofs.lemmas.List.{take_more}
 use Rattle.std.proofs.lemmas.Bool.{lt-ltb, le-ltb}
 use Rattle.std.specs.List.{prefix_len}
@@ -66,3 +67,8 @@ got_at size bs i found within here is = rw (here, lt-ltb i (length bs) within, i
 pub more_at : (size : CodeSize) (bs : List ℕ) (i : ℕ) → length bs ≤ i → prefix_len (is_prefix size) bs ≡ i → More ≡ prefix_part size bs
 unfolding prefix_part
 more_at size bs i over here = rw (here, le-ltb i (length bs) over) refl
+
+-- no prefix before the first byte
+pub plain_first : (size : CodeSize) (bs : List ℕ) → 0 < length bs → is_prefix size (get_or bs 0 0) ≡ false → Got (record { lock = false; rep = 0; seg = None; opsize = false; adsize = false; rex = None }) 0 ≡ prefix_part size bs
+unfolding prefixes_of
+plain_first size bs some plain = got_at size bs 0 (record { lock = false; rep = 0; seg = None; opsize = false; adsize = false; rex = None }) some (prefix_len-drop_no (is_prefix size) bs 0 0 some plain) refl

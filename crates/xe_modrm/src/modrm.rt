@@ -1,10 +1,10 @@
 //! The operand of a ModRM byte, with its SIB byte and displacement.
 
-ghost use Rattle.std.specs.Prelude.{◌≡◌, ◌≤◌, ◌<◌, ◌*◌, ◌^◌, ◌==◌, ◌||◌, ◌≢◌, length, IsTrue, IfSome};
+ghost use Rattle.std.specs.Prelude.{◌≡◌, ◌≤◌, ◌<◌, ◌*◌, ◌^◌, ◌==◌, ◌||◌, ◌≢◌, length, IsTrue, IfSome, pos};
 ghost use Rattle.xe_base.specs.Bytes.{num};
 ghost use Rattle.xe_base.specs.Words.{signed};
 ghost use Rattle.xe_modrm.specs.Reader.{one_byte, Within};
-ghost use Rattle.xe_modrm.specs.Operand.{is_short, eight, has_sib, disp_len, sib_part, disp_part, short_base, short_index, long_base, long_index, long_scale, operand_of, operand_after, operand_part};
+ghost use Rattle.xe_modrm.specs.Operand.{md_of, is_short, eight, has_sib, disp_len, sib_part, disp_part, short_base, short_index, long_base, long_index, long_scale, operand_of, operand_after, operand_part};
 ghost use Rattle.xe_modrm.specs.Valid.{IsModRm, IsGotModRm};
 
 use crate::modrm_byte::ModRmByte;
@@ -223,14 +223,37 @@ fn meaning(size: CodeSize, pre: &Prefixes, m: ModRmByte, sib: SibByte, disp: i64
     }
 }
 
+/// A register operand, which is its ModRM byte alone.
+#[tactic(auto, unfolding(crate::specs::Operand::operand_of))]
+#[inline(always)]
+fn register(size: CodeSize, pre: &Prefixes, m: ModRmByte) -> ModRm
+    requires { md_of m.byte ≡ 3 }
+    ensures value { result ≡ operand_of size pre.now m.byte 0 (pos 0) }
+    ensures valid { IsModRm result }
+{
+    ModRm {
+        md: 3,
+        reg: m.reg() + eight(pre.rex, 2),
+        rm: m.rm() + eight(pre.rex, 0),
+        base: None,
+        index: None,
+        scale: 1,
+        disp: 0,
+        rip_relative: false,
+    }
+}
+
 /// What follows a ModRM byte.
-#[tactic(auto, unfolding(crate::specs::Operand::operand_after))]
+#[tactic(auto, unfolding(crate::specs::Operand::operand_after), using(crate::proofs::RegisterLaws::register_rest))]
 #[inline(always)]
 fn operand_after(size: CodeSize, pre: &Prefixes, m: ModRmByte, bytes: &[u8]) -> Part<ModRm>
     ensures value { result ≡ operand_after size pre.now m.byte bytes.now }
     ensures within { Within result bytes.now }
     ensures valid { IsGotModRm result }
 {
+    if m.md() == 3 {
+        return Part::Got(register(size, pre, m), 0);
+    }
     let short = is_short(size, pre.adsize);
     let Part::Got(sib, used) = sib(has_sib(short, m), bytes) else {
         return Part::More;

@@ -67,27 +67,38 @@ fn noted(size: CodeSize, found: Prefixes, byte: u8) -> Option<Prefixes>
     }
 }
 
-/// The prefixes at the front of `bytes`: all prefix bytes up to the first byte that is none.
-///
-/// The legacy prefixes are F0, F2, F3, 2E, 36, 3E, 26, 64, 65, 66 and 67. Of F2 and F3 the last
-/// counts, and of the segment prefixes too. In 64-bit code 40 to 4F is REX where it stands
-/// directly before the opcode and is ignored elsewhere among the prefixes, and 2E, 36, 3E and 26
-/// are ignored and cancel nothing (SDM volume 2, sections 2.1.1 and 2.2.1). `More` comes exactly
-/// where every byte is a prefix byte, so that the opcode is missing.
+/// No prefix.
+const NO_PREFIXES: Prefixes = Prefixes {
+    lock: false,
+    rep: 0,
+    seg: None,
+    opsize: false,
+    adsize: false,
+    rex: None,
+};
+
+/// Whether a byte can stand before the opcode.
 #[inline(always)]
-pub fn prefixes(size: CodeSize, bytes: &[u8]) -> Part<Prefixes>
+fn is_prefix(size: CodeSize, byte: u8) -> bool
+    ensures { result ≡ is_prefix size byte }
+{
+    match byte {
+        0xF0 | 0xF2 | 0xF3 => true,
+        0x26 | 0x2E | 0x36 | 0x3E => true,
+        0x64..=0x67 => true,
+        0x40..=0x4F => is_64_bit(size),
+        _ => false,
+    }
+}
+
+/// The prefixes, one byte after another.
+#[inline(never)]
+fn each_prefix(size: CodeSize, bytes: &[u8]) -> Part<Prefixes>
     ensures value { result ≡ prefix_part size bytes.now }
     ensures within { Within result bytes.now }
     ensures valid { IsGotPrefixes size result }
 {
-    let mut found = Prefixes {
-        lock: false,
-        rep: 0,
-        seg: None,
-        opsize: false,
-        adsize: false,
-        rex: None,
-    };
+    let mut found = NO_PREFIXES;
     for (i, byte) in bytes.iter().enumerate() {
         match noted(size, found, *byte) {
             Some(next) => found = next,
@@ -95,4 +106,25 @@ pub fn prefixes(size: CodeSize, bytes: &[u8]) -> Part<Prefixes>
         }
     }
     Part::More
+}
+
+/// The prefixes at the front of `bytes`: all prefix bytes up to the first byte that is none.
+///
+/// The legacy prefixes are F0, F2, F3, 2E, 36, 3E, 26, 64, 65, 66 and 67. Of F2 and F3 the last
+/// counts, and of the segment prefixes too. In 64-bit code 40 to 4F is REX where it stands
+/// directly before the opcode and is ignored elsewhere among the prefixes, and 2E, 36, 3E and 26
+/// are ignored and cancel nothing (SDM volume 2, sections 2.1.1 and 2.2.1). `More` comes exactly
+/// where every byte is a prefix byte, so that the opcode is missing.
+#[tactic(auto, using(crate::proofs::PrefixLaws::plain_first, crate::proofs::ValidLaws::start_valid))]
+#[inline(always)]
+pub fn prefixes(size: CodeSize, bytes: &[u8]) -> Part<Prefixes>
+    ensures value { result ≡ prefix_part size bytes.now }
+    ensures within { Within result bytes.now }
+    ensures valid { IsGotPrefixes size result }
+{
+    // Most instructions have none.
+    if !bytes.is_empty() && !is_prefix(size, bytes[0]) {
+        return Part::Got(NO_PREFIXES, 0);
+    }
+    each_prefix(size, bytes)
 }

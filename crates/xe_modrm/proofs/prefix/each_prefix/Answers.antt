@@ -5,7 +5,7 @@ use Rattle.xe_modrm.specs.Valid.{IsPrefixes}
 use Rattle.xe_modrm.specs.declared.part.Prefixes.{Prefixes}
 use Rattle.xe_modrm.proofs.ValidLaws.{then_valid, start_valid}
 use Rattle.xe_modrm.proofs.PrefixLaws.{some_if, none_if, step_found, got_at, more_at}
-use Rattle.xe_modrm.proofs.prefix.prefixes.Goals as goal
+use Rattle.xe_modrm.proofs.prefix.each_prefix.Goals as goal
 
 pub loop-i-init : goal.loop-i-init
 unfolding prefixes_of

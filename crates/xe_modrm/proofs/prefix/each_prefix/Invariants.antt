@@ -2,7 +2,7 @@ use Rattle.std.proofs.Common.{◌≡◌, ◌+◌, take, drop}
 use Rattle.std.specs.List.{prefix_len}
 use Rattle.xe_modrm.specs.Prefix.{is_prefix, prefixes_of}
 use Rattle.xe_modrm.specs.Valid.{IsPrefixes}
-use Rattle.xe_modrm.proofs.prefix.prefixes.Given as goal
+use Rattle.xe_modrm.proofs.prefix.each_prefix.Given as goal
 
 abbrev pub invariant-loop-i : goal.invariant-loop-i
 invariant-loop-i l = record {
