@@ -188,30 +188,36 @@ fn is_bad_in_64_bit(op: u16) -> bool
     )
 }
 
+/// SWAPGS as a cell of the maps.
+static SWAPGS: OpcodeCell = OpcodeCell::Form(InsnForm {
+    row: Row::Swapgs,
+    operand: OperandKind::Any,
+    imm: ImmediateKind::Nothing,
+    lock: false,
+    size: SizeIn64Bit::Usual,
+});
+
+/// A cell that is invalid.
+static INVALID: OpcodeCell = OpcodeCell::Invalid;
+
 /// SWAPGS, which is there in 64-bit code alone.
-fn swapgs_cell(in_64_bit: bool) -> OpcodeCell
-    ensures value { result ≡ swapgs_cell in_64_bit }
-    ensures cell { IsCellOf 0x0F01 result }
+fn swapgs_cell(in_64_bit: bool) -> &'static OpcodeCell
+    ensures value { result.now ≡ swapgs_cell in_64_bit }
+    ensures cell { IsCellOf 0x0F01 result.now }
 {
     if !in_64_bit {
-        return OpcodeCell::Invalid;
+        return &INVALID;
     }
-    OpcodeCell::Form(InsnForm {
-        row: Row::Swapgs,
-        operand: OperandKind::Any,
-        imm: ImmediateKind::Nothing,
-        lock: false,
-        size: SizeIn64Bit::Usual,
-    })
+    &SWAPGS
 }
 
 /// What an opcode with the ModRM byte m is, where the reg field belongs to the opcode.
 #[tactic(auto, unfolding(crate::specs::Encoding::group_cell))]
 #[inline(always)]
-fn group_cell(conditions: MapConditions, op: u16, m: u8) -> OpcodeCell
+fn group_cell(conditions: MapConditions, op: u16, m: u8) -> &'static OpcodeCell
     requires { IsOpcode op }
-    ensures value { result ≡ group_cell conditions op m }
-    ensures cell { IsCellOf op result }
+    ensures value { result.now ≡ group_cell conditions op m }
+    ensures cell { IsCellOf op result.now }
 {
     if op == 0x0F01 && m == 0xF8 {
         return swapgs_cell(conditions.in_64_bit);
@@ -241,7 +247,7 @@ fn group_part(
     match group_cell(conditions_of(size, pre), op, m) {
         OpcodeCell::Outside => Part::Got(Judgement::Outside, used),
         OpcodeCell::Invalid => Part::Got(Judgement::Invalid, used),
-        OpcodeCell::Form(form) => operand_row(size, pre, op, &form, bytes, draft),
+        OpcodeCell::Form(form) => operand_row(size, pre, op, form, bytes, draft),
     }
 }
 
@@ -252,21 +258,21 @@ fn cell_part(
     size: CodeSize,
     pre: &Prefixes,
     op: u16,
-    cell: OpcodeCell,
+    cell: &OpcodeCell,
     bytes: &[u8],
     draft: &mut Insn,
 ) -> Part<Judgement>
     requires prefixes { IsPrefixes size pre.now }
     requires opcode { IsOpcode op }
-    requires cell { IsCellOf op cell }
-    ensures value { drafted result draft.new ≡ cell_part size pre.now op cell bytes.now }
+    requires cell { IsCellOf op cell.now }
+    ensures value { drafted result draft.new ≡ cell_part size pre.now op cell.now bytes.now }
     ensures within { Within result bytes.now }
     ensures valid { IsGotVerdict size (drafted result draft.new) }
 {
     match cell {
         OpcodeCell::Outside => Part::Got(Judgement::Outside, 0),
         OpcodeCell::Invalid => Part::Got(Judgement::Invalid, 0),
-        OpcodeCell::Form(form) => row_part(size, pre, op, &form, bytes, draft),
+        OpcodeCell::Form(form) => row_part(size, pre, op, form, bytes, draft),
     }
 }
 
@@ -381,10 +387,10 @@ fn answer(size: CodeSize, bytes: &[u8]) -> Decoded
 {
     let mut draft = BLANK;
     match decode_part(size, bytes, &mut draft) {
-        Part::Got(Judgement::Valid, len) => Decoded::Insn(Insn {
-            len: len as u8,
-            ..draft
-        }),
+        Part::Got(Judgement::Valid, len) => {
+            draft.len = len as u8;
+            Decoded::Insn(draft)
+        }
         Part::Got(Judgement::Invalid, len) => Decoded::Invalid(len as u8),
         Part::Got(Judgement::Outside, _) => Decoded::Outside,
         Part::More => Decoded::More,

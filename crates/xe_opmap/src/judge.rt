@@ -84,12 +84,16 @@ pub fn judged(
     if is_wrong(pre, form, &modrm) {
         return Judgement::Invalid;
     }
-    draft.row = form.row;
+    // All is read before the draft is written to, as a compiler can't know that they are apart.
+    let opsize = opsize_of(size, pre, form.size);
+    let adsize = adsize_of(size, pre.adsize);
+    let (row, pre) = (form.row, *pre);
+    draft.row = row;
     draft.len = 0;
     draft.opcode = op;
-    draft.opsize = opsize_of(size, pre, form.size);
-    draft.adsize = adsize_of(size, pre.adsize);
-    draft.pre = *pre;
+    draft.opsize = opsize;
+    draft.adsize = adsize;
+    draft.pre = pre;
     draft.modrm = modrm;
     draft.imm = imm;
     draft.imm2 = imm2;

@@ -11,15 +11,15 @@ use crate::opcodes::{ONE_BYTE, TWO_BYTE};
 
 /// The place of an opcode in its map.
 #[inline(always)]
-fn entry(op: u16) -> MapEntry
+fn entry(op: u16) -> &'static MapEntry
     requires { IsOpcode op }
-    ensures { result ≡ entry_of op }
+    ensures { result.now ≡ entry_of op }
 {
     if op < 256 {
-        ONE_BYTE[op as usize / 8][op as usize % 8]
+        &ONE_BYTE[op as usize / 8][op as usize % 8]
     } else {
         let op = (op - 0x0F00) as usize;
-        TWO_BYTE[op / 8][op % 8]
+        &TWO_BYTE[op / 8][op % 8]
     }
 }
 
@@ -40,14 +40,14 @@ pub fn needs_reg(op: u16) -> bool
 
 /// What the tables have for an opcode and a reg field.
 #[inline(always)]
-fn cell_of(conditions: MapConditions, op: u16, reg: u8) -> OpcodeCell
+fn cell_of(conditions: MapConditions, op: u16, reg: u8) -> &'static OpcodeCell
     requires opcode { IsOpcode op }
     requires reg { reg < 8 }
-    ensures { result ≡ cell_at conditions op reg }
+    ensures { result.now ≡ cell_at conditions op reg }
 {
     match entry(op) {
         MapEntry::Alone(cell) => cell,
-        MapEntry::Group(group) => GROUPS[group as usize][reg as usize],
+        MapEntry::Group(group) => &GROUPS[*group as usize][reg as usize],
         MapEntry::ByCode(legacy, in_64_bit) => if conditions.in_64_bit {
             in_64_bit
         } else {
@@ -68,11 +68,11 @@ fn cell_of(conditions: MapConditions, op: u16, reg: u8) -> OpcodeCell
 
 /// What an opcode says with this reg field.
 #[inline(always)]
-pub fn cell_at(conditions: MapConditions, op: u16, reg: u8) -> OpcodeCell
+pub fn cell_at(conditions: MapConditions, op: u16, reg: u8) -> &'static OpcodeCell
     requires opcode { IsOpcode op }
     requires reg { reg < 8 }
-    ensures value { result ≡ cell_at conditions op reg }
-    ensures cell { IsCellOf op result }
+    ensures value { result.now ≡ cell_at conditions op reg }
+    ensures cell { IsCellOf op result.now }
 {
     cell_of(conditions, op, reg)
 }

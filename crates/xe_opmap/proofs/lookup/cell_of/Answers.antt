@@ -2,8 +2,8 @@ use Rattle.std.proofs.Common.{sym, ◌∙◌, ap}
 use Rattle.xe_opmap.proofs.TableLaws.{cell_is, entry_cell, group_below, by_true, by_false, rex_first, rep_second, plain_last}
 use Rattle.xe_opmap.proofs.lookup.cell_of.Goals as goal
 
-pub bounds-group : goal.bounds-group
-bounds-group c = group_below c.args.op c.in-Group.group c.requires.opcode (sym c.entry.ensures ∙ c.in-Group.is)
+pub bounds-cell-group : goal.bounds-cell-group
+bounds-cell-group c = group_below c.args.op c.in-Group.group c.requires.opcode (sym c.entry.ensures ∙ c.in-Group.is)
 
 pub returns-in-Alone : goal.returns-in-Alone
 returns-in-Alone c = sym (ap (entry_cell c.args.conditions c.args.reg) (sym c.entry.ensures ∙ c.in-Alone.is)) ∙ cell_is c.args.conditions c.args.op c.args.reg c.requires.opcode c.requires.reg
