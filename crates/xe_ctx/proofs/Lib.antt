@@ -14,6 +14,7 @@ pub mod FetchLaws
 pub mod RunLaws
 pub mod AcceptLaws
 pub mod Pieces
+pub mod Numbers
 pub mod Stores
 pub mod Walks
 pub mod Places

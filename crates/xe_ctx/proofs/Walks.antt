@@ -1,11 +1,11 @@
-use Rattle.std.proofs.Common.{ℕ, zero, suc, ◌≡◌, ◌∙◌, ◌<◌, ◌≤◌, ◌+◌, inl, inr, List, [], ◌∷◌, ◌++◌, length, take, drop, get_or, refl, sym, ap, arith, add-one, Bool, true, false, ◌&&◌, ◌==◌, if◌then◌else◌, Some, None, bit_or}
+use Rattle.std.proofs.Common.{ℕ, zero, suc, ◌≡◌, ◌∙◌, ◌<◌, ◌≤◌, ◌+◌, inl, inr, List, [], ◌∷◌, length, drop, get_or, refl, sym, ap, arith, add-one, Bool, true, false, ◌&&◌, ◌==◌, if◌then◌else◌, Some, None, bit_or}
 use Rattle.std.specs.Prelude.{All, IfOk, Result, Ok, Err}
-use Rattle.std.proofs.Math.Seq.{drop-cons, take-append_seam}
+use Rattle.std.proofs.Math.Seq.{drop-cons}
 use Rattle.std.proofs.lemmas.Bool.{cases_lt}
 use Rattle.std.proofs.lemmas.Bool.Decides.{nat_tests}
 use Rattle.std.proofs.lemmas.List.{drop_all}
 use Rattle.std.proofs.lemmas.List.Elements.{All-nil, All-cons, All-head, All-tail}
-use Rattle.xe_base.proofs.Ram.{bytes-one, bits-put, bits-same, length-bytes}
+use Rattle.xe_base.proofs.Ram.{bytes-one, bits-put, bits-same}
 use Rattle.xe_base.specs.Bytes.{num}
 use Rattle.xe_base.specs.Ram.{Area, in_ram, byte_of, bytes_of, put_byte, put_bytes, set_bits, AreRam}
 use Rattle.xe_base.specs.declared.cpu.Cpu.{Cpu}
@@ -37,9 +37,6 @@ unfolding all_ram are_ram
 same-test ram pa zero = refl
 same-test ram pa (suc n) = rw (same-test ram (pa + 1) n) refl
 
-front : (bytes rest : List ℕ) (n : ℕ) → length bytes ≡ n → take n (bytes ++ rest) ≡ bytes
-front bytes rest n h = rw (← h) (take-append_seam bytes rest)
-
 module _ (ram : List Area) (cells : List Cell) (pa n : ℕ) (test : Bool) (to : test ≡ true → AreRam ram pa n) (from : AreRam ram pa n → test ≡ true) where
   all-patched : all_ram (patched ram cells) pa n ≡ test
   all-patched = same-test (patched ram cells) pa n ∙ are_ram-patched ram cells pa n ∙ sym (are_ram-same ram pa n test to from)
@@ -47,12 +44,8 @@ module _ (ram : List Area) (cells : List Cell) (pa n : ℕ) (test : Bool) (to : 
   pub entry-none : test ≡ false → None ≡ entry_of (patched ram cells) pa n
   entry-none f = rw (all-patched, f) refl
 
-  pub entry-some : (m : ℕ) (bytes rest : List ℕ) (value : ℕ) → m ≡ n → test ≡ true → bytes ≡ bytes_of (patched ram cells) pa m → value ≡ num (take n (bytes ++ rest)) → Some value ≡ entry_of (patched ram cells) pa n
-  entry-some m bytes rest value l t b v =
-      let d : bytes ≡ bytes_of (patched ram cells) pa n = rw l at b in
-      let k : length bytes ≡ n = ap length d ∙ length-bytes (patched ram cells) pa n in
-      let w : value ≡ num bytes = v ∙ ap num (front bytes rest n k) in
-      rw (all-patched, t, w, d) refl
+  pub entry-some : (value : ℕ) → test ≡ true → value ≡ num (bytes_of (patched ram cells) pa n) → Some value ≡ entry_of (patched ram cells) pa n
+  entry-some value t v = rw (all-patched, t, v) refl
 
 -- ---- one byte
 

@@ -29,3 +29,4 @@ pub mod Privilege
 pub mod Stack
 pub mod Ports
 pub mod Plain
+pub mod Numbers

@@ -1,7 +1,7 @@
 //! Numbers and their bytes; an access outside RAM as aligned chunks.
 #![tactic(auto, using(xe_base::proofs::Bytes::byte_rules))]
 
-ghost use Rattle.std.specs.Prelude.{◌≡◌, ℕ, ◌+◌, ◌-◌, ◌*◌, ◌%◌, ◌^◌, ◌<◌, ◌≤◌, ◌++◌, length, drop, All};
+ghost use Rattle.std.specs.Prelude.{◌≡◌, ℕ, ◌+◌, ◌-◌, ◌*◌, ◌%◌, ◌^◌, ◌<◌, ◌≤◌, ◌++◌, length, take, drop, All};
 ghost use Rattle.xe_base.specs.Bytes.{num, le};
 ghost use Rattle.xe_ctx.specs.Chunks.{first_size, chunks};
 
@@ -16,8 +16,8 @@ pub(crate) struct Chunk {
     pub size: usize,
 }
 
-/// The number that the bytes are, the lowest first.
-pub(crate) fn number_of(bytes: &[u8]) -> u128
+/// The number that the bytes are, the lowest first, byte by byte.
+fn sum_of(bytes: &[u8]) -> u128
     requires { length bytes.now ≤ 16 }
     ensures is { result ≡ num bytes.now }
     ensures below { result < 2 ^ (8 * length bytes.now) }
@@ -31,16 +31,53 @@ pub(crate) fn number_of(bytes: &[u8]) -> u128
     number
 }
 
-/// Appends the n low bytes of a number, the lowest first.
-fn push_bytes(out: &mut ArrayVec<u8, 16>, n: usize, number: u128)
-    requires { length out.old.items + n ≤ 16 }
-    ensures { out.new.items ≡ out.old.items ++ le n number }
+/// The number that 8 bytes are, the lowest first.
+#[inline(always)]
+#[tactic(auto, unfolding(xe_base::specs::Bytes::num))]
+fn number_of_8(bytes: &[u8]) -> u64
+    requires { length bytes.now ≡ 8 }
+    ensures { result ≡ num bytes.now }
 {
-    let mut rest = number;
-    for i in 0..n {
-        out.push((rest % 256) as u8);
-        rest /= 256;
+    match bytes {
+        [a, b, c, d, e, f, g, h] => u64::from_le_bytes([*a, *b, *c, *d, *e, *f, *g, *h]),
+        _ => unreachable!(),
     }
+}
+
+/// The number that the bytes are, the lowest first. At the sizes of operands it is one load.
+#[inline(always)]
+#[tactic(auto, unfolding(xe_base::specs::Bytes::num))]
+pub(crate) fn number_of(bytes: &[u8]) -> u128
+    requires { length bytes.now ≤ 16 }
+    ensures is { result ≡ num bytes.now }
+    ensures below { result < 2 ^ (8 * length bytes.now) }
+{
+    match bytes {
+        [a] => u128::from(*a),
+        [a, b] => u128::from(u16::from_le_bytes([*a, *b])),
+        [a, b, c, d] => u128::from(u32::from_le_bytes([*a, *b, *c, *d])),
+        [_, _, _, _, _, _, _, _] => u128::from(number_of_8(bytes)),
+        _ => sum_of(bytes),
+    }
+}
+
+/// Appends bytes.
+#[inline]
+pub(crate) fn append(out: &mut ArrayVec<u8, 16>, bytes: &[u8])
+    requires { length out.old.items + length bytes.now ≤ 16 }
+    ensures { out.new.items ≡ out.old.items ++ bytes.now }
+{
+    match out.try_extend_from_slice(bytes) {
+        Ok(()) | Err(_) => {}
+    }
+}
+
+/// The bytes of a number, the lowest first.
+#[inline(always)]
+pub(crate) fn all_bytes(number: u128) -> [u8; 16]
+    ensures { (n : ℕ) → n ≤ 16 → take n result ≡ le n number }
+{
+    number.to_le_bytes()
 }
 
 /// The n low bytes of a number, the lowest first.
@@ -49,19 +86,10 @@ pub(crate) fn bytes_of(n: usize, number: u128) -> ArrayVec<u8, 16>
     ensures is { result.items ≡ le n number }
     ensures size { length result.items ≡ n }
 {
+    let all = all_bytes(number);
     let mut bytes = ArrayVec::new();
-    push_bytes(&mut bytes, n, number);
+    append(&mut bytes, &all[..n]);
     bytes
-}
-
-/// Appends bytes.
-pub(crate) fn append(out: &mut ArrayVec<u8, 16>, bytes: &[u8])
-    requires { length out.old.items + length bytes.now ≤ 16 }
-    ensures { out.new.items ≡ out.old.items ++ bytes.now }
-{
-    for b in bytes {
-        out.push(*b);
-    }
 }
 
 /// The greatest of 8, 4, 2 and 1 that divides the address and is at most n.

@@ -45,6 +45,7 @@ pub struct Ctx<'a, B, I> {
 impl<'a, B: Bus, I: Intercepts> Ctx<'a, B, I> {
     /// A step that has done nothing yet. Where the bus tells its script, its room and the record's answers
     /// together are at least 256.
+    #[inline]
     pub fn begin(
         m: &'a mut Machine,
         icpt: &'a I,
@@ -74,6 +75,7 @@ impl<'a, B: Bus, I: Intercepts> Ctx<'a, B, I> {
     }
 
     /// The registers at the start of the step.
+    #[inline]
     pub fn cpu(&self) -> &Cpu
         ensures value { result.now ≡ cpu_of self.now }
         ensures valid { Valid result.now }
@@ -82,6 +84,7 @@ impl<'a, B: Bus, I: Intercepts> Ctx<'a, B, I> {
     }
 
     /// The accesses that the step has made, with their answers, in their order.
+    #[inline]
     pub fn made(&self) -> &[Made]
         ensures value { result.now ≡ (view B.sight I.hits self.now).step.made }
         ensures fits { length result.now ≤ 256 }
@@ -90,6 +93,7 @@ impl<'a, B: Bus, I: Intercepts> Ctx<'a, B, I> {
     }
 
     /// The bytes of the instruction that were fetched.
+    #[inline]
     pub fn code(&self) -> &[u8]
         ensures value { result.now ≡ code_of self.now }
         ensures fits { length result.now ≤ 15 }
@@ -133,6 +137,7 @@ impl<'a, B: Bus, I: Intercepts> Ctx<'a, B, I> {
     /// The first access of the record that the step hasn't reached, and its place, counted from 0 in the
     /// order of the step: that of a kept answer, or the asked one. None exactly where the step has reached
     /// every one.
+    #[inline]
     pub fn unused(&self) -> Option<(u16, Access)>
         requires open { IsOpen B.sight self.now }
         ensures some { IfSome result (λ u. unused (kept_in self.now) (made_in self.now) ≡ Some u.1) }
@@ -148,6 +153,7 @@ impl<'a, B: Bus, I: Intercepts> Ctx<'a, B, I> {
 
     /// The step takes effect: the machine has these registers, and the bytes of RAM that the step
     /// has changed; and the record keeps nothing.
+    #[inline(always)]
     pub fn commit(self, cpu: Cpu)
         requires open { IsOpen B.sight self }
         requires valid { Valid cpu }
@@ -170,6 +176,7 @@ impl<'a, B: Bus, I: Intercepts> Ctx<'a, B, I> {
     /// The step is given up. The machine is as before it. Where a device wasn't ready or failed, the
     /// record keeps the accesses made and the one that was asked; where the record belongs to another step, it
     /// is as it was; at every other end it keeps nothing.
+    #[inline]
     pub fn end(self, stop: &Stop)
         requires open { IsOpen B.sight self }
         requires keeps { CanKeep stop.now (made_in self) }

@@ -156,6 +156,7 @@ impl<'a, B: Bus, I: Intercepts> Ctx<'a, B, I> {
 }
 
 /// The record has another access at a place of the step.
+#[cold]
 fn diverged(at: usize, kept: Access, wanted: Access) -> Stop
     requires { at ≤ 255 }
     ensures { result ≡ Stop.Diverged (record { at = at; kept = kept; wanted = Some wanted }) }

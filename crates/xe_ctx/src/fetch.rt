@@ -20,6 +20,7 @@ use xe_icpt::Intercepts;
 use xe_walk::Kind;
 
 /// A fetch of code.
+#[inline]
 fn fetch_kind() -> Kind
     ensures { result ≡ fetch_kind }
 {
@@ -38,6 +39,7 @@ struct Run {
 }
 
 /// Puts bytes behind those of the instruction that were fetched.
+#[inline]
 fn append_code(code: &mut ArrayVec<u8, 15>, bytes: &[u8])
     requires { length code.old.items + length bytes.now ≤ 15 }
     ensures { code.new.items ≡ code.old.items ++ bytes.now }
@@ -49,6 +51,7 @@ fn append_code(code: &mut ArrayVec<u8, 15>, bytes: &[u8])
 
 impl Machine {
     /// #GP(0) of a byte of the instruction that the segment doesn't let be fetched, or a sixteenth one.
+    #[inline]
     fn fetch_fault(&self) -> Stop
         ensures { result ≡ stop_of (fetch_fault (state_of self.now)) }
     {
@@ -58,6 +61,7 @@ impl Machine {
     /// The linear address of byte `i` behind RIP, and of how many bytes from there on the segment lets
     /// each be fetched: 0 where not even of that one. In 64-bit mode the bytes of a page are canonical
     /// together; elsewhere the limit and 4 GiB, in offsets and in addresses, are the ends.
+    #[inline]
     fn code_room(&self, i: u8) -> (u64, u64)
         ensures address { result.0 ≡ code_address (state_of self.now).cpu i }
         ensures room { MayFetch (state_of self.now).cpu i result.0 result.1 }
@@ -81,6 +85,7 @@ impl Machine {
 
     /// Where the byte at a linear address lies, and how many bytes from there on lie behind it: those of
     /// the page, or all where paging is off. Or why it can't be translated.
+    #[inline]
     fn code_place(&self, la: u64) -> Result<Run, Stop>
         ensures placed { IfOk result (λ run. IsPlaced (state_of self.now) la run.pa run.n) }
         ensures some { IfOk result (λ run. 0 < run.n) }
@@ -103,6 +108,7 @@ impl Machine {
 
     /// How many bytes of the instruction, from byte `i` on and at most up to the fifteenth, lie one
     /// behind another in RAM: no further than segment, page and RAM go. Or why byte `i` can't be had.
+    #[inline]
     fn code_run(&self, i: u8) -> Result<Run, Stop>
         requires { i ≤ 14 }
         ensures run { IfOk result (λ run. IsRun (state_of self.now) i run.pa run.n) }
@@ -124,7 +130,9 @@ impl Machine {
     }
 
     /// Reads the next bytes of the instruction, as many as lie one behind another, by one load; or
-    /// answers why the next one can't be had.
+    /// answers why the next one can't be had. Nearly always these are all 15, which move as one where their
+    /// count is a constant.
+    #[inline]
     fn more_code(&self, code: &mut ArrayVec<u8, 15>) -> Result<(), Stop>
         requires code { code.old.items ≡ take (length code.old.items) (avail (state_of self.now)).bytes }
         requires room { length code.old.items < 15 }
@@ -137,6 +145,11 @@ impl Machine {
         let Run { pa, n } = self.code_run(code.len() as u8)?;
         let n = n as usize;
         let mut bytes = [0; 15];
+        if n == 15 {
+            self.mem.load(pa, &mut bytes);
+            append_code(code, &bytes);
+            return Ok(());
+        }
         self.mem.load(pa, &mut bytes[..n]);
         append_code(code, &bytes[..n]);
         Ok(())
@@ -177,6 +190,7 @@ impl Machine {
     }
 
     /// Marks the pages of the instruction's first `len` bytes as accessed. These lie in two pages at most.
+    #[inline]
     fn mark_code(&mut self, len: u8)
         requires had { len ≤ length (avail (state_of self.old)).bytes }
         requires room { length (cells_of self.old) + 10 ≤ 1024 }

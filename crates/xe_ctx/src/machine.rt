@@ -7,7 +7,7 @@ ghost use Rattle.xe_ctx.specs.Work.{patched};
 ghost use Rattle.xe_ctx.specs.declared.overlay.Cell.{Cell};
 
 use crate::chunk::append;
-use crate::overlay::{Cell, load_patched, push_cells};
+use crate::overlay::{Cell, load_patched, number_at, push_cells};
 use arrayvec::ArrayVec;
 use xe_base::{BadState, Cpu, Made};
 use xe_mem::{GuestMem, Region};
@@ -40,10 +40,12 @@ pub struct NotRam {
 }
 
 impl Machine {
-    ghost use Rattle.std.specs.Prelude.{◌≡◌, ◌<◌, ◌≤◌, ◌+◌, ◌^◌, ◌++◌, [], ◌∷◌, length, IfOk, IfErr, OnOk, OnErr, Some, None, Ok, Err, true};
+    ghost use Rattle.std.specs.Prelude.{◌≡◌, ◌<◌, ◌≤◌, ◌+◌, ◌*◌, ◌^◌, ◌++◌, [], ◌∷◌, length, IfOk, IfErr, OnOk, OnErr, Some, None, Ok, Err, true};
     ghost use Rattle.xe_base.specs.State.{Valid, broken, answer_of};
+    ghost use Rattle.xe_base.specs.Bytes.{num};
     ghost use Rattle.xe_base.specs.Ram.{bytes_of, put_bytes};
     ghost use Rattle.xe_mem.specs.Layout.{regions_of};
+    ghost use Rattle.xe_ctx.specs.Chunks.{is_size};
     ghost use Rattle.xe_ctx.specs.Machine.{state_of, cells_of, made_of, work_of, CellsFit, first_hole};
     ghost use Rattle.xe_ctx.specs.Memory.{are_ram};
 
@@ -69,6 +71,7 @@ impl Machine {
     }
 
     /// The registers.
+    #[inline]
     pub fn cpu(&self) -> &Cpu
         ensures value { result.now ≡ (state_of self.now).cpu }
         ensures valid { Valid result.now }
@@ -132,6 +135,7 @@ impl Machine {
     }
 
     /// A step begins: it has changed nothing and made no access.
+    #[inline]
     pub(crate) fn begin_step(&mut self)
         ensures state { state_of self.new ≡ state_of self.old }
         ensures cells { cells_of self.new ≡ [] }
@@ -142,6 +146,7 @@ impl Machine {
     }
 
     /// The accesses that the running step has made.
+    #[inline]
     pub(crate) fn made(&self) -> &[Made]
         ensures value { result.now ≡ made_of self.now }
         ensures fits { length result.now ≤ 256 }
@@ -150,6 +155,7 @@ impl Machine {
     }
 
     /// The running step has made one more access.
+    #[inline]
     pub(crate) fn note(&mut self, made: Made)
         requires { length (made_of self.old) < 256 }
         ensures state { state_of self.new ≡ state_of self.old }
@@ -160,6 +166,7 @@ impl Machine {
     }
 
     /// Whether each of the `n` bytes is RAM.
+    #[inline]
     pub(crate) fn is_ram(&self, pa: u64, n: u64) -> bool
         ensures { result ≡ are_ram (state_of self.now).ram pa n }
     {
@@ -184,7 +191,19 @@ impl Machine {
         all
     }
 
+    /// The number that bytes of the RAM are, as the running step sees them.
+    #[inline]
+    pub(crate) fn number(&self, pa: u64, n: usize) -> u128
+        requires size { is_size n ≡ true }
+        requires ram { are_ram (state_of self.now).ram pa n ≡ true }
+        ensures is { result ≡ num (bytes_of (work_of self.now) pa n) }
+        ensures below { result < 2 ^ (8 * n) }
+    {
+        number_at(&self.mem, self.scratch.cells.as_slice(), pa, n)
+    }
+
     /// The running step writes bytes of the RAM.
+    #[inline]
     pub(crate) fn write(&mut self, pa: u64, bytes: &[u8])
         requires room { length (cells_of self.old) + length bytes.now ≤ 1024 }
         requires fits { pa + length bytes.now < 2 ^ 64 }
@@ -200,17 +219,19 @@ impl Machine {
     }
 
     /// The running step takes effect: the registers, and the bytes that it has changed.
+    #[inline(always)]
     pub(crate) fn install(&mut self, cpu: Cpu)
         requires valid { Valid cpu }
         requires cells { CellsFit self.old }
         ensures { state_of self.new ≡ record { cpu = cpu; ram = work_of self.old } }
     {
-        apply(&mut self.mem, self.scratch.cells.as_slice());
         self.cpu = cpu;
+        apply(&mut self.mem, self.scratch.cells.as_slice());
     }
 }
 
 /// Puts the changed bytes into the RAM, the oldest first.
+#[inline]
 fn apply(mem: &mut GuestMem, cells: &[Cell])
     requires { All (λ (c : Cell). in_ram mem.old c.at ≡ true) cells.now }
     ensures { mem.new ≡ patched mem.old cells.now }

@@ -6,12 +6,13 @@ ghost use Rattle.std.specs.Prelude.{◌≡◌, ℕ, ◌+◌, ◌*◌, ◌<◌, �
 ghost use Rattle.xe_base.specs.Bytes.{num};
 ghost use Rattle.xe_ctx.specs.Chunks.{chunks, is_size, most};
 ghost use Rattle.xe_ctx.specs.Is.{Does, Is};
-ghost use Rattle.xe_ctx.specs.Memory.{data_kind, system_kind, system_bits, is_wide, bits_of, next_page, read_place, write_bytes, load_at, store_at, probe_at, locate};
+ghost use Rattle.xe_ctx.specs.Memory.{data_kind, system_kind, system_bits, is_wide, bits_of, next_page, read_place, devices_read, write_bytes, load_at, store_at, probe_at, locate};
+ghost use Rattle.xe_ctx.specs.Numbers.{numbered};
 ghost use Rattle.xe_ctx.specs.Tree.{load, load_for_write, probe, store, load_sys, store_sys};
 ghost use Rattle.xe_ctx.specs.View.{view, cpu_of, SameHandles, IsOpen, accesses_left, bytes_left, bytes_in};
 
 use crate::bus::Bus;
-use crate::chunk::{append, bytes_of, number_of};
+use crate::chunk::{all_bytes, append, number_of};
 use crate::ctx::Ctx;
 use crate::stop::Stop;
 use arrayvec::ArrayVec;
@@ -37,8 +38,7 @@ impl<'a, B: Bus, I: Intercepts> Ctx<'a, B, I> {
         ensures part { Is (load seg offset n) (view B.sight I.hits self.old) result (view B.sight I.hits self.new) }
     {
         let la = self.locate(seg, offset, n, false)?;
-        let bytes = self.load_at(la, n as usize, data_kind(false))?;
-        Ok(number_of(bytes.as_slice()))
+        self.load_number(la, n as usize, data_kind(false))
     }
 
     /// Reads as [`Ctx::load`] does, where the bytes must be writable too.
@@ -56,8 +56,7 @@ impl<'a, B: Bus, I: Intercepts> Ctx<'a, B, I> {
         ensures part { Is (load_for_write seg offset n) (view B.sight I.hits self.old) result (view B.sight I.hits self.new) }
     {
         let la = self.locate(seg, offset, n, true)?;
-        let bytes = self.load_at(la, n as usize, data_kind(true))?;
-        Ok(number_of(bytes.as_slice()))
+        self.load_number(la, n as usize, data_kind(true))
     }
 
     /// Makes the checks of a store, and moves nothing.
@@ -93,8 +92,8 @@ impl<'a, B: Bus, I: Intercepts> Ctx<'a, B, I> {
         ensures part { Is (store seg offset n value) (view B.sight I.hits self.old) result (view B.sight I.hits self.new) }
     {
         let la = self.locate(seg, offset, n, true)?;
-        let bytes = bytes_of(n as usize, value);
-        self.store_at(la, bytes.as_slice(), data_kind(true))
+        let all = all_bytes(value);
+        self.store_at(la, &all[..n as usize], data_kind(true))
     }
 
     /// Reads `n` bytes of a descriptor table or of the TSS at a linear address, the lowest first: without a
@@ -114,8 +113,7 @@ impl<'a, B: Bus, I: Intercepts> Ctx<'a, B, I> {
         ensures part { Is (load_sys la n) (view B.sight I.hits self.old) result (view B.sight I.hits self.new) }
     {
         let at = self.system_address(la);
-        let bytes = self.load_at(at, n as usize, system_kind(false))?;
-        Ok(number_of(bytes.as_slice()))
+        self.load_number(at, n as usize, system_kind(false))
     }
 
     /// Writes the `n` bytes of a number there, as [`Ctx::store`] does.
@@ -133,11 +131,12 @@ impl<'a, B: Bus, I: Intercepts> Ctx<'a, B, I> {
         ensures part { Is (store_sys la n value) (view B.sight I.hits self.old) result (view B.sight I.hits self.new) }
     {
         let at = self.system_address(la);
-        let bytes = bytes_of(n as usize, value);
-        self.store_at(at, bytes.as_slice(), system_kind(true))
+        let all = all_bytes(value);
+        self.store_at(at, &all[..n as usize], system_kind(true))
     }
 
     /// The address of a system access, which has 64 bits in long mode and 32 elsewhere.
+    #[inline]
     fn system_address(&self, la: u64) -> u64
         ensures value { result ≡ la % 2 ^ system_bits (cpu_of self.now) }
         ensures within { result < 2 ^ system_bits (cpu_of self.now) }
@@ -149,6 +148,7 @@ impl<'a, B: Bus, I: Intercepts> Ctx<'a, B, I> {
     }
 
     /// The linear address of an operand, or the exception that it raises.
+    #[inline]
     #[tactic(auto, using(crate::proofs::Locates::locate_rules))]
     fn locate(&mut self, seg: SegName, offset: u64, n: u32, write: bool) -> Result<u64, Stop>
         requires open { IsOpen B.sight self.old }
@@ -167,6 +167,7 @@ impl<'a, B: Bus, I: Intercepts> Ctx<'a, B, I> {
     }
 
     /// Whether the linear addresses of an access have 64 bits, and not 32.
+    #[inline]
     fn is_wide(&self, kind: Kind) -> bool
         ensures { result ≡ is_wide (cpu_of self.now) kind }
     {
@@ -178,6 +179,7 @@ impl<'a, B: Bus, I: Intercepts> Ctx<'a, B, I> {
     }
 
     /// The linear address behind the end of the page.
+    #[inline]
     fn next_page(&self, la: u64, kind: Kind) -> u64
         ensures value { result ≡ next_page (bits_of (cpu_of self.now) kind) la }
         ensures aligned { result % 4096 ≡ 0 }
@@ -208,6 +210,72 @@ impl<'a, B: Bus, I: Intercepts> Ctx<'a, B, I> {
             return self.read_devices(pa, n);
         }
         Ok(self.m.read(pa, n))
+    }
+
+    /// The number that n bytes of devices are.
+    #[tactic(auto, using(crate::proofs::Numbers::number_rules))]
+    fn number_of_devices(&mut self, pa: u64, n: usize) -> Result<u128, Stop>
+        requires open { IsOpen B.sight self.old }
+        requires small { n ≤ 16 }
+        requires fits { pa < 2 ^ 52 }
+        requires accesses { length (chunks pa n) ≤ accesses_left self.old }
+        ensures same { SameHandles self.old self.new }
+        ensures open { IsOpen B.sight self.new }
+        ensures accesses { accesses_left self.old ≤ accesses_left self.new + length (chunks pa n) }
+        ensures bytes { bytes_left self.new ≡ bytes_left self.old }
+        ensures below { IfOk result (λ v. v < 2 ^ (8 * n)) }
+        ensures part { Does (numbered (devices_read pa n)) (view B.sight I.hits self.old) result (view B.sight I.hits self.new) }
+    {
+        let bytes = self.read_devices(pa, n)?;
+        Ok(number_of(bytes.as_slice()))
+    }
+
+    /// A piece is read, as the number that its bytes are: of the RAM with no list between.
+    #[inline]
+    #[tactic(auto, using(crate::proofs::Numbers::number_rules))]
+    fn read_number(&mut self, pa: u64, n: usize) -> Result<u128, Stop>
+        requires open { IsOpen B.sight self.old }
+        requires size { is_size n ≡ true }
+        requires small { n ≤ 16 }
+        requires fits { pa < 2 ^ 52 }
+        requires accesses { length (chunks pa n) ≤ accesses_left self.old }
+        ensures same { SameHandles self.old self.new }
+        ensures open { IsOpen B.sight self.new }
+        ensures accesses { accesses_left self.old ≤ accesses_left self.new + length (chunks pa n) }
+        ensures bytes { bytes_left self.new ≡ bytes_left self.old }
+        ensures below { IfOk result (λ v. v < 2 ^ (8 * n)) }
+        ensures part { (at : ℕ) → Does (numbered (read_place (record { pa = pa; at = at; n = n }))) (view B.sight I.hits self.old) result (view B.sight I.hits self.new) }
+    {
+        if !self.m.is_ram(pa, n as u64) {
+            return self.number_of_devices(pa, n);
+        }
+        Ok(self.m.number(pa, n))
+    }
+
+    /// The number that is read there, nearly always of one page.
+    #[inline]
+    #[tactic(auto, using(crate::proofs::Numbers::number_rules))]
+    fn load_number(&mut self, la: u64, n: usize, kind: Kind) -> Result<u128, Stop>
+        requires open { IsOpen B.sight self.old }
+        requires size { is_size n ≡ true }
+        requires small { n ≤ 16 }
+        requires accesses { most n ≤ accesses_left self.old }
+        requires within { la < 2 ^ bits_of (cpu_of self.old) kind }
+        requires bytes { 10 ≤ bytes_left self.old }
+        ensures same { SameHandles self.old self.new }
+        ensures open { IsOpen B.sight self.new }
+        ensures accesses { accesses_left self.old ≤ accesses_left self.new + most n }
+        ensures bytes { bytes_left self.old ≤ bytes_left self.new + 10 }
+        ensures below { IfOk result (λ v. v < 2 ^ (8 * n)) }
+        ensures part { Does (numbered (load_at kind la n)) (view B.sight I.hits self.old) result (view B.sight I.hits self.new) }
+    {
+        let room = 4096 - (la % 4096) as usize;
+        if n <= room {
+            let pa = self.place(la, kind)?;
+            return self.read_number(pa, n);
+        }
+        let bytes = self.load_at(la, n, kind)?;
+        Ok(number_of(bytes.as_slice()))
     }
 
     /// All pieces are translated before any byte is read.
@@ -264,6 +332,7 @@ impl<'a, B: Bus, I: Intercepts> Ctx<'a, B, I> {
     }
 
     /// A piece is written, to the RAM or to devices.
+    #[inline]
     fn write_piece(&mut self, pa: u64, bytes: &[u8]) -> Result<(), Stop>
         requires open { IsOpen B.sight self.old }
         requires small { length bytes.now ≤ 16 }
@@ -284,6 +353,7 @@ impl<'a, B: Bus, I: Intercepts> Ctx<'a, B, I> {
     }
 
     /// All pieces are translated before any byte is written.
+    #[inline]
     #[tactic(auto, using(crate::proofs::Stores::store_rules))]
     fn store_at(&mut self, la: u64, bytes: &[u8], kind: Kind) -> Result<(), Stop>
         requires open { IsOpen B.sight self.old }
@@ -312,6 +382,7 @@ impl<'a, B: Bus, I: Intercepts> Ctx<'a, B, I> {
 }
 
 /// An access to data, through a segment.
+#[inline]
 fn data_kind(write: bool) -> Kind
     ensures { result ≡ data_kind write }
 {
@@ -323,6 +394,7 @@ fn data_kind(write: bool) -> Kind
 }
 
 /// An access of the processor's own to a descriptor table or the TSS.
+#[inline]
 fn system_kind(write: bool) -> Kind
     ensures { result ≡ system_kind write }
 {

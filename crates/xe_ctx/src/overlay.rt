@@ -1,11 +1,14 @@
 //! The bytes of RAM that a step has changed, and the RAM as the step sees it.
 
-ghost use Rattle.std.specs.Prelude.{◌≡◌, ℕ, ◌+◌, ◌<◌, ◌≤◌, ◌^◌, true, length, All, List};
+ghost use Rattle.std.specs.Prelude.{◌≡◌, ℕ, ◌+◌, ◌*◌, ◌<◌, ◌≤◌, ◌^◌, true, length, All, List};
 ghost use Rattle.arrayvec.specs.ArrayVec.{array_vec_len};
+ghost use Rattle.xe_base.specs.Bytes.{num};
 ghost use Rattle.xe_base.specs.Ram.{Area, in_ram, bytes_of, put_bytes, AreRam};
+ghost use Rattle.xe_ctx.specs.Chunks.{is_size};
 ghost use Rattle.xe_ctx.specs.Work.{patched};
 ghost use Rattle.xe_ctx.specs.declared.overlay.Cell.{Cell};
 
+use crate::chunk::number_of;
 use arrayvec::ArrayVec;
 use xe_mem::GuestMem;
 
@@ -18,6 +21,7 @@ pub(crate) struct Cell {
 
 /// Reads bytes of the RAM as the step sees it: the changed bytes, the oldest first, over those of
 /// the RAM.
+#[inline(always)]
 pub(crate) fn load_patched(mem: &GuestMem, cells: &[Cell], pa: u64, out: &mut [u8])
     requires { AreRam mem.now pa (length out.old) }
     ensures { out.new ≡ bytes_of (patched mem.now cells.now) pa (length out.old) }
@@ -30,7 +34,39 @@ pub(crate) fn load_patched(mem: &GuestMem, cells: &[Cell], pa: u64, out: &mut [u
     }
 }
 
+/// The number that N bytes of the RAM are, as the step sees it. Their count is a constant, so that they are
+/// moved as one.
+#[inline]
+fn word<const N: usize>(mem: &GuestMem, cells: &[Cell], pa: u64) -> u128
+    requires small { N ≤ 16 }
+    requires ram { AreRam mem.now pa N }
+    ensures is { result ≡ num (bytes_of (patched mem.now cells.now) pa N) }
+    ensures below { result < 2 ^ (8 * N) }
+{
+    let mut bytes = [0; N];
+    load_patched(mem, cells, pa, &mut bytes);
+    number_of(&bytes)
+}
+
+/// The number that the bytes of an operand are, in the RAM as the step sees it.
+#[inline]
+pub(crate) fn number_at(mem: &GuestMem, cells: &[Cell], pa: u64, n: usize) -> u128
+    requires size { is_size n ≡ true }
+    requires ram { AreRam mem.now pa n }
+    ensures is { result ≡ num (bytes_of (patched mem.now cells.now) pa n) }
+    ensures below { result < 2 ^ (8 * n) }
+{
+    match n {
+        1 => word::<1>(mem, cells, pa),
+        2 => word::<2>(mem, cells, pa),
+        4 => word::<4>(mem, cells, pa),
+        8 => word::<8>(mem, cells, pa),
+        _ => word::<16>(mem, cells, pa),
+    }
+}
+
 /// The step writes bytes of the RAM.
+#[inline]
 pub(crate) fn push_cells(cells: &mut ArrayVec<Cell, 1024>, pa: u64, bytes: &[u8])
     requires room { array_vec_len cells.old + length bytes.now ≤ 1024 }
     requires fits { pa + length bytes.now < 2 ^ 64 }

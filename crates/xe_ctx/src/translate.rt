@@ -16,10 +16,9 @@ ghost use Rattle.xe_ctx.specs.View.{view, cpu_of, SameHandles, IsOpen, accesses_
 ghost use Rattle.xe_ctx.specs.Work.{patched};
 
 use crate::bus::Bus;
-use crate::chunk::number_of;
 use crate::ctx::Ctx;
 use crate::machine::Machine;
-use crate::overlay::{Cell, load_patched};
+use crate::overlay::{Cell, load_patched, number_at};
 use crate::stop::{Handoff, Stop};
 use xe_icpt::Intercepts;
 use xe_mem::GuestMem;
@@ -47,6 +46,7 @@ impl<'a> Phys for Working<'a> {
 }
 
 /// The entry of 4 or 8 bytes there, as the step sees it; none where one of its bytes isn't RAM.
+#[inline]
 fn entry_in(mem: &GuestMem, cells: &[Cell], pa: u64, size: u8) -> Option<u64>
     requires { (size ≡ 4) ⊎ (size ≡ 8) }
     ensures { result ≡ entry_of (patched mem.now cells.now) pa size }
@@ -54,13 +54,11 @@ fn entry_in(mem: &GuestMem, cells: &[Cell], pa: u64, size: u8) -> Option<u64>
     if !mem.is_ram(pa, size as u64) {
         return None;
     }
-    let n = size as usize;
-    let mut bytes = [0; 8];
-    load_patched(mem, cells, pa, &mut bytes[..n]);
-    Some(number_of(&bytes[..n]) as u64)
+    Some(number_at(mem, cells, pa, size as usize) as u64)
 }
 
 /// What is set in an entry: accessed, and dirty in the last one for a write.
+#[inline]
 fn entry_bits(last: bool, write: bool) -> u8
     ensures { result ≡ page_bits (last && write) }
 {
@@ -68,6 +66,7 @@ fn entry_bits(last: bool, write: bool) -> u8
 }
 
 /// How a step ends where a translation is refused.
+#[cold]
 pub(crate) fn ending_of(refused: WalkStop) -> Stop
     ensures { result ≡ stop_of (walk_ending refused) }
 {
@@ -79,6 +78,7 @@ pub(crate) fn ending_of(refused: WalkStop) -> Stop
 
 impl Machine {
     /// Translates a linear address over the RAM with these changed bytes.
+    #[inline]
     fn walk_over(&self, cells: &[Cell], la: u64, kind: Kind) -> Result<Hit, WalkStop>
         ensures is { walked result ≡ walk (patched (state_of self.now).ram cells.now) (state_of self.now).cpu la kind }
         ensures page { IfOk result (λ hit. hit.pa % 4096 ≡ la % 4096) }
@@ -96,6 +96,7 @@ impl Machine {
     }
 
     /// Translates a linear address over the RAM as the running step sees it.
+    #[inline]
     pub(crate) fn walk(&self, la: u64, kind: Kind) -> Result<Hit, WalkStop>
         ensures is { walked result ≡ walk (work_of self.now) (state_of self.now).cpu la kind }
         ensures page { IfOk result (λ hit. hit.pa % 4096 ≡ la % 4096) }
@@ -107,6 +108,7 @@ impl Machine {
     }
 
     /// Translates a linear address over the RAM as it was when the step began: so does fetching.
+    #[inline]
     #[tactic(auto, unfolding(crate::specs::Work::patched))]
     pub(crate) fn walk_at_start(&self, la: u64, kind: Kind) -> Result<Hit, WalkStop>
         ensures is { walked result ≡ walk (state_of self.now).ram (state_of self.now).cpu la kind }
@@ -118,6 +120,7 @@ impl Machine {
     }
 
     /// A byte of the RAM, as the running step sees it.
+    #[inline]
     fn byte(&self, pa: u64) -> u8
         requires { in_ram (state_of self.now).ram pa ≡ true }
         ensures { result ≡ byte_of (work_of self.now) pa }
@@ -128,6 +131,7 @@ impl Machine {
     }
 
     /// Sets bits of a byte of the RAM. Where they are set already the step has changed nothing.
+    #[inline]
     fn set_bits(&mut self, pa: u64, bits: u8)
         requires ram { in_ram (state_of self.old).ram pa ≡ true }
         requires low { pa ≤ 2 ^ 40 }
@@ -147,6 +151,7 @@ impl Machine {
     }
 
     /// Sets the accessed bit of each of these entries, and the dirty bit of the last one for a write.
+    #[inline]
     fn mark_each(&mut self, used: &[Used], write: bool)
         requires ram { AreEntries (state_of self.old).ram used.now }
         requires room { length (cells_of self.old) + length used.now ≤ 1024 }
@@ -164,6 +169,7 @@ impl Machine {
     }
 
     /// A translation of this kind has used these entries.
+    #[inline]
     pub(crate) fn mark(&mut self, used: &[Used], kind: Kind)
         requires ram { AreEntries (state_of self.old).ram used.now }
         requires room { length (cells_of self.old) + length used.now ≤ 1024 }
@@ -181,6 +187,7 @@ impl Machine {
 
 impl<'a, B: Bus, I: Intercepts> Ctx<'a, B, I> {
     /// The physical address of a linear one; without paging they are the same.
+    #[inline]
     pub(crate) fn place(&mut self, la: u64, kind: Kind) -> Result<u64, Stop>
         requires open { IsOpen B.sight self.old }
         requires within { la < 2 ^ bits_of (cpu_of self.old) kind }

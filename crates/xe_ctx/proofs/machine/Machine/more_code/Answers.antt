@@ -15,6 +15,10 @@ returns-in_err-pa-clause-reason c =
     let h = e.1 in
     search (rules, h)
 
+pub returns-then-n-eq15-clause-code : goal.returns-then-n-eq15-clause-code
+returns-then-n-eq15-clause-code c =
+    run-read (state_of c.args.self.now) _ _ _ _ _ _ c.len.ensures.value c.in_ok-pa.ensures.few c.requires.code c.in_ok-pa.ensures.run c.append_code.ensures (rw c.if-n-eq15.true c.load.ensures)
+
 pub returns-clause-code : goal.returns-clause-code
 returns-clause-code c =
-    run-read (state_of c.args.self.now) _ _ _ _ _ _ c.len.ensures.value c.in_ok-pa.ensures.few c.requires.code c.in_ok-pa.ensures.run c.append_code.ensures (front-loaded _ _ _ _ _ (omega (arith, c.in_ok-pa.ensures.few)) c.load.ensures)
+    run-read (state_of c.args.self.now) _ _ _ _ _ _ c.len.ensures.value c.in_ok-pa.ensures.few c.requires.code c.in_ok-pa.ensures.run c.append_code-2.ensures (front-loaded _ _ _ _ _ (omega (arith, c.in_ok-pa.ensures.few)) c.load-2.ensures)

@@ -2,7 +2,7 @@ use Rattle.std.proofs.Common.{arith, refl, ◌≡◌, length}
 use Rattle.std.proofs.lemmas.List.{drop_all}
 use Rattle.xe_base.specs.Bytes.{num}
 use Rattle.xe_base.proofs.Bytes.{num-nil, num-below, fits-more}
-use Rattle.xe_ctx.proofs.chunk.number_of.Goals as goal
+use Rattle.xe_ctx.proofs.chunk.sum_of.Goals as goal
 
 pub down-init : goal.down-init
 down-init c = record { in_range = omega arith; is = rw (drop_all (length c.args.bytes.now) c.args.bytes.now (omega arith), num-nil) refl }
