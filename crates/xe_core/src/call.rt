@@ -26,6 +26,7 @@ use xe_icpt::Intercepts;
 use xe_opmap::Row;
 
 /// Whether TF is set, so that a trap follows the step.
+#[inline]
 fn is_trapped(cpu: &Cpu) -> bool
     ensures { result ≡ tf cpu.now }
 {
@@ -33,6 +34,7 @@ fn is_trapped(cpu: &Cpu) -> bool
 }
 
 /// What a retirement brings with it where TF was set when the step began, and where it wasn't.
+#[inline]
 fn retired(retire: u8, is_trapped: bool) -> u8
     requires { retire < 8 }
     ensures { result ≡ (if is_trapped then retire + 8 else retire) }
@@ -41,6 +43,7 @@ fn retired(retire: u8, is_trapped: bool) -> u8
 }
 
 /// Whether the step ended as its definition has it, and not at a device or at the record.
+#[inline]
 fn is_plain(outcome: &Outcome) -> bool
     ensures { result ≡ is_plain outcome.now }
 {
@@ -56,6 +59,7 @@ fn is_plain(outcome: &Outcome) -> bool
 }
 
 /// Whether the step finished.
+#[inline]
 fn is_done(outcome: &Outcome) -> bool
     ensures { result ≡ is_done outcome.now }
 {
@@ -81,6 +85,7 @@ pub(crate) struct SoFar {
 
 /// Whether another step may follow one that ended so, with these accesses: it leaves elements to be
 /// done, and made no access.
+#[inline]
 fn leaves_more(outcome: &Outcome, made: &[Made]) -> bool
     ensures { result ≡ leaves_more outcome.now made.now }
 {
@@ -98,6 +103,7 @@ fn leaves_more(outcome: &Outcome, made: &[Made]) -> bool
 }
 
 /// Tries one step: its instruction, and how it ended. Where it finished, the draft has the registers.
+#[inline]
 fn attempt<B: Bus, I: Intercepts>(ctx: &mut Ctx<B, I>, cpu: &mut Cpu) -> (Option<Row>, Outcome)
     requires open { IsOpen B.sight ctx.old }
     requires none { code_of ctx.old ≡ [] }
@@ -129,6 +135,7 @@ fn attempt<B: Bus, I: Intercepts>(ctx: &mut Ctx<B, I>, cpu: &mut Cpu) -> (Option
 
 /// How a step ends: as it did; or, where it came to an end of its own and hasn't reached all that the
 /// record has, with that. Only the first step of a turn can have a record.
+#[inline]
 #[tactic(auto, using(crate::proofs::CallLaws::nothing_unused))]
 fn judged<B: Bus, I: Intercepts>(ctx: &Ctx<B, I>, is_first: bool, outcome: Outcome) -> Outcome
     requires open { IsOpen B.sight ctx.now }
@@ -151,6 +158,7 @@ fn judged<B: Bus, I: Intercepts>(ctx: &Ctx<B, I>, is_first: bool, outcome: Outco
 /// What the turn has come to, where it may go on behind this step and does. Else the report tells of
 /// the turn, with the accesses of this step, kept ones included; with none where the record belongs
 /// to another step.
+#[inline]
 fn tell<B: Bus, I: Intercepts>(
     ctx: &Ctx<B, I>,
     row: Option<Row>,
@@ -180,6 +188,7 @@ fn tell<B: Bus, I: Intercepts>(
 
 /// The stop by which a step is given up. One that the table doesn't have leaves nothing in the record,
 /// as an exception does.
+#[inline]
 fn stop_by(outcome: &Outcome) -> Stop
     ensures kept { kept_after result ≡ left_by outcome.now }
     ensures keeps { (made : List Made) → Keepable outcome.now made → CanKeep result made }

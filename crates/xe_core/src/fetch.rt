@@ -30,6 +30,7 @@ pub(crate) fn outcome_of(stop: Stop) -> Outcome
 /// Unhandled for one that the table doesn't have, and where bytes are missing that it needs, why the
 /// first of them can't be had. Reading has no effect, so that bytes which the instruction turns out not
 /// to need don't matter, nor why they can't be had.
+#[inline]
 #[tactic(auto, unfolding(crate::specs::Emulate::fetched))]
 pub(crate) fn instruction<B: Bus, I: Intercepts>(ctx: &mut Ctx<B, I>) -> Result<Insn, Outcome>
     requires open { IsOpen B.sight ctx.old }

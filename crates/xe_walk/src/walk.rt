@@ -31,6 +31,7 @@ pub enum WalkStop {
 }
 
 /// Judges the rights for a page that begins there and has 2^low bytes.
+#[inline]
 fn land(
     cpu: &Cpu,
     la: u64,
@@ -54,6 +55,7 @@ fn land(
 }
 
 /// Walks the tables of the format in force, from the top.
+#[inline]
 fn walk_tables<P: Phys>(cpu: &Cpu, ram: &mut P, la: u64, kind: Kind) -> Result<Hit, WalkStop>
     requires { pg cpu.now ≡ true }
     ensures is { walked result ≡ walk (P.ram ram.old) cpu.now la kind }
@@ -101,6 +103,7 @@ fn walk_tables<P: Phys>(cpu: &Cpu, ram: &mut P, la: u64, kind: Kind) -> Result<H
 /// the walk; where there is none, the rights are judged over all entries together (SDM volume 3,
 /// "Linear-Address Translation" and "Access Rights"). CR2 of a fault is the address that was asked for.
 /// Bits of the linear address above the top table's index are not looked at.
+#[inline]
 pub fn translate<P: Phys>(cpu: &Cpu, ram: &mut P, la: u64, kind: Kind) -> Result<Hit, WalkStop>
     ensures is { walked result ≡ walk (P.ram ram.old) cpu.now la kind }
     // the same byte of the page
