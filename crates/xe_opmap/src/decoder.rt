@@ -378,22 +378,22 @@ const BLANK: Insn = Insn {
     imm2: 0,
 };
 
-/// The answer of the decoder.
-#[inline(always)]
-fn answer(size: CodeSize, bytes: &[u8]) -> Decoded
+/// The answer of the decoder, written in place: each way to end writes it once.
+#[inline(never)]
+fn answer(size: CodeSize, bytes: &[u8], decoded: &mut Decoded)
     requires { length bytes.now ≤ 15 }
-    ensures value { result ≡ finished (decode_part size bytes.now) }
-    ensures ranges { IsDecoded size result }
+    ensures value { decoded.new ≡ finished (decode_part size bytes.now) }
+    ensures ranges { IsDecoded size decoded.new }
 {
     let mut draft = BLANK;
     match decode_part(size, bytes, &mut draft) {
         Part::Got(Judgement::Valid, len) => {
             draft.len = len as u8;
-            Decoded::Insn(draft)
+            *decoded = Decoded::Insn(draft);
         }
-        Part::Got(Judgement::Invalid, len) => Decoded::Invalid(len as u8),
-        Part::Got(Judgement::Outside, _) => Decoded::Outside,
-        Part::More => Decoded::More,
+        Part::Got(Judgement::Invalid, len) => *decoded = Decoded::Invalid(len as u8),
+        Part::Got(Judgement::Outside, _) => *decoded = Decoded::Outside,
+        Part::More => *decoded = Decoded::More,
     }
 }
 
@@ -413,5 +413,7 @@ pub fn decode(size: CodeSize, bytes: &[u8]) -> Decoded
     ensures answers { Answers size bytes.now result }
     ensures ranges { IsDecoded size result }
 {
-    answer(size, bytes)
+    let mut decoded = Decoded::More;
+    answer(size, bytes, &mut decoded);
+    decoded
 }
