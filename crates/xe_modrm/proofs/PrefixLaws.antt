@@ -1,7 +1,7 @@
-use Rattle.std.proofs.Common.{◌≡◌, ℕ, Bool, true, false, ◌||◌, List, [], ◌∷◌, ◌++◌, length, take, get_or, ◌<◌, ◌≤◌, ◌+◌, refl, sym, ◌∙◌, ap, cond, Option, Some, None}
+use Rattle.std.proofs.Common.{arith, ◌≡◌, ℕ, Bool, true, false, ◌||◌, List, [], ◌∷◌, ◌++◌, length, take, get_or, ◌<◌, ◌≤◌, ◌+◌, refl, sym, ◌∙◌, ap, cond, Option, Some, None}
 use Rattle.std.specs.Prelude.{◌==◌, unwrap_or}
 use Rattle.std.specs.List.{list_any, last_or, filter}
-use Rattle.std.proofs.lemmas.List.Sums.{prefix_len-drop_no}
+use Rattle.std.proofs.lemmas.List.Sums.{prefix_len-drop_no, prefix_len-drop_yes}
 use Rattle.std.proofs.lemmas.List.{take_more}
 use Rattle.std.proofs.lemmas.Bool.{lt-ltb, le-ltb}
 use Rattle.std.specs.List.{prefix_len}
@@ -72,3 +72,12 @@ more_at size bs i over here = rw (here, le-ltb i (length bs) over) refl
 pub plain_first : (size : CodeSize) (bs : List ℕ) → 0 < length bs → is_prefix size (get_or bs 0 0) ≡ false → Got (record { lock = false; rep = 0; seg = None; opsize = false; adsize = false; rex = None }) 0 ≡ prefix_part size bs
 unfolding prefixes_of
 plain_first size bs some plain = got_at size bs 0 (record { lock = false; rep = 0; seg = None; opsize = false; adsize = false; rex = None }) some (prefix_len-drop_no (is_prefix size) bs 0 0 some plain) refl
+
+-- one prefix
+pub lone_first : (size : CodeSize) (bs : List ℕ) (found : Prefixes) → 1 < length bs → is_prefix size (get_or bs 0 0) ≡ true → is_prefix size (get_or bs 1 0) ≡ false → found ≡ prefixes_then size (record { lock = false; rep = 0; seg = None; opsize = false; adsize = false; rex = None }) (get_or bs 0 0) → Got found 1 ≡ prefix_part size bs
+unfolding prefixes_of
+lone_first size bs found room taken refused is =
+    let one = prefix_len-drop_yes (is_prefix size) bs 0 0 (omega arith) taken in
+    let none = prefix_len-drop_no (is_prefix size) bs 1 0 room refused in
+    let here = step_found size bs 0 (record { lock = false; rep = 0; seg = None; opsize = false; adsize = false; rex = None }) found (omega arith) refl is in
+    got_at size bs 1 found room (omega arith) here

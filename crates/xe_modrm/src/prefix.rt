@@ -1,6 +1,7 @@
 //! The prefixes in front of an opcode.
 
-ghost use Rattle.std.specs.Prelude.{◌≡◌, if◌then◌else◌};
+ghost use Rattle.std.specs.Prelude.{◌≡◌, ◌<◌, length, false, if◌then◌else◌};
+ghost use Rattle.std.proofs.Common.{get_or};
 ghost use Rattle.xe_modrm.specs.Reader.{Within};
 ghost use Rattle.xe_modrm.specs.Valid.{IsGotPrefixes};
 ghost use Rattle.xe_modrm.specs.Prefix.{is_64_bit, is_prefix, prefixes_then, prefix_part};
@@ -108,6 +109,21 @@ fn each_prefix(size: CodeSize, bytes: &[u8]) -> Part<Prefixes>
     Part::More
 }
 
+/// The prefixes where the second byte is none.
+#[inline(always)]
+fn lone_prefix(size: CodeSize, bytes: &[u8]) -> Part<Prefixes>
+    requires room { 1 < length bytes.now }
+    requires plain { is_prefix size (get_or bytes.now 1 0) ≡ false }
+    ensures value { result ≡ prefix_part size bytes.now }
+    ensures within { Within result bytes.now }
+    ensures valid { IsGotPrefixes size result }
+{
+    match noted(size, NO_PREFIXES, bytes[0]) {
+        Some(found) => Part::Got(found, 1),
+        None => Part::Got(NO_PREFIXES, 0),
+    }
+}
+
 /// The prefixes at the front of `bytes`: all prefix bytes up to the first byte that is none.
 ///
 /// The legacy prefixes are F0, F2, F3, 2E, 36, 3E, 26, 64, 65, 66 and 67. Of F2 and F3 the last
@@ -122,9 +138,12 @@ pub fn prefixes(size: CodeSize, bytes: &[u8]) -> Part<Prefixes>
     ensures within { Within result bytes.now }
     ensures valid { IsGotPrefixes size result }
 {
-    // Most instructions have none.
+    // Most instructions have none or one.
     if !bytes.is_empty() && !is_prefix(size, bytes[0]) {
         return Part::Got(NO_PREFIXES, 0);
+    }
+    if bytes.len() > 1 && !is_prefix(size, bytes[1]) {
+        return lone_prefix(size, bytes);
     }
     each_prefix(size, bytes)
 }
