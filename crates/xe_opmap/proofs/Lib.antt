@@ -5,5 +5,6 @@ pub mod DecodeLaws
 pub mod PartsLaws
 pub mod RelationLaws
 pub mod NeedLaws
+pub mod DraftLaws
 pub mod AllPartsLaws
 pub mod OutsideLaws

@@ -6,7 +6,7 @@ ghost use Rattle.xe_opmap.specs.Table.{bad_in_64_bit, IsOpcode};
 ghost use Rattle.std.specs.Option.{ForSome};
 ghost use Rattle.xe_modrm.specs.Valid.{IsPrefixes, IsModRm};
 ghost use Rattle.xe_opmap.specs.Valid.{is_kind, control_fits, IsFormOf, IsGotOperand, IsCellOf, IsGotVerdict, TakesSome, IsDecoded};
-ghost use Rattle.xe_opmap.specs.Draft.{drafted};
+ghost use Rattle.xe_opmap.specs.Draft.{drafted, opcode_part, IsGotOpcode};
 ghost use Rattle.xe_opmap.specs.Relations.{Answers};
 ghost use Rattle.xe_opmap.specs.Encoding.{immediates_part, modrm_part, operand_row, row_part, is_swapgs, swapgs_cell, group_cell, group_part, cell_part, after_opcode, after_first_byte, decode_part, finished};
 
@@ -308,8 +308,23 @@ fn after_opcode(
     )
 }
 
-/// What follows the first byte of an opcode: 0F has a second one.
-#[tactic(auto, unfolding(crate::specs::Encoding::after_first_byte))]
+/// The opcode with this first byte: 0F has a second one.
+#[inline(always)]
+fn opcode(first: u8, bytes: &[u8]) -> Part<u16>
+    ensures value { result ≡ opcode_part first bytes.now }
+    ensures within { Within result bytes.now }
+    ensures opcode { IsGotOpcode result }
+{
+    if first != 0x0F {
+        return Part::Got(first as u16, 0);
+    }
+    match byte(bytes) {
+        Part::Got(second, used) => Part::Got(0x0F00 + second as u16, used),
+        Part::More => Part::More,
+    }
+}
+
+/// What follows the first byte of an opcode.
 #[inline(always)]
 fn after_first_byte(
     size: CodeSize,
@@ -323,14 +338,11 @@ fn after_first_byte(
     ensures within { Within result bytes.now }
     ensures valid { IsGotVerdict size (drafted result draft.new) }
 {
-    if first != 0x0F {
-        return after_opcode(size, pre, first as u16, bytes, draft);
-    }
-    let Part::Got(second, used) = byte(bytes) else {
-        return Part::More;
-    };
-    match after_opcode(size, pre, 0x0F00 + second as u16, &bytes[used..], draft) {
-        Part::Got(verdict, more) => Part::Got(verdict, used + more),
+    match opcode(first, bytes) {
+        Part::Got(op, used) => match after_opcode(size, pre, op, &bytes[used..], draft) {
+            Part::Got(judgement, more) => Part::Got(judgement, used + more),
+            Part::More => Part::More,
+        },
         Part::More => Part::More,
     }
 }
