@@ -13,15 +13,15 @@ ghost use Rattle.xe_opmap.specs.Encoding.{immediates_part, modrm_part, operand_r
 use crate::form::{ImmediateKind, InsnForm, MapConditions, OpcodeCell, OperandKind, SizeIn64Bit};
 use crate::immediate::{first, second};
 use crate::insn::{Decoded, Insn, Judgement};
-use crate::judge::{ends_outside, has_modrm, judged};
+use crate::judge::{ends_outside, has_modrm, is_wrong};
 use crate::lookup::{cell_at, needs_reg};
 use crate::row::Row;
 use crate::sizes::{adsize_of, conditions_of, is_64_bit, opsize_of};
 use xe_base::CodeSize;
 use xe_modrm::{ModRm, ModRmByte, Part, Prefixes, operand, prefixes};
 
-/// The immediates, after which the instruction is judged.
-#[tactic(auto, unfolding(crate::specs::Encoding::immediates_part))]
+/// The immediates, after which the instruction is judged, and written to the draft where it is valid.
+#[tactic(auto, unfolding(crate::specs::Encoding::immediates_part, crate::specs::Encoding::judged), using(crate::proofs::NeedLaws::need_is))]
 #[inline(always)]
 fn immediates_part(
     size: CodeSize,
@@ -49,10 +49,21 @@ fn immediates_part(
     let Part::Got(imm2, more) = second(form.imm, &bytes[used..]) else {
         return Part::More;
     };
-    Part::Got(
-        judged(size, pre, op, form, modrm, imm, imm2, draft),
-        used + more,
-    )
+    if is_wrong(pre, form, &modrm) {
+        return Part::Got(Judgement::Invalid, used + more);
+    }
+    // Both are read before the draft is written to, as a compiler can't know that they are apart.
+    let (row, pre) = (form.row, *pre);
+    draft.row = row;
+    draft.len = 0;
+    draft.opcode = op;
+    draft.opsize = opsize;
+    draft.adsize = adsize;
+    draft.pre = pre;
+    draft.modrm = modrm;
+    draft.imm = imm;
+    draft.imm2 = imm2;
+    Part::Got(Judgement::Valid, used + more)
 }
 
 /// One byte.
