@@ -6,6 +6,7 @@ use crate::line::Line;
 use xe_base::{Cpu, Seg, Table};
 
 /// The name of a general register, by its number in the encoding.
+#[inline]
 pub(crate) fn general_name(number: usize) -> &'static [u8]
     requires { number < 16 }
     ensures name { result.now ≡ spec.general_name number }
@@ -32,7 +33,9 @@ pub(crate) fn general_name(number: usize) -> &'static [u8]
     }
 }
 
-/// Appends a register's name and its value.
+/// Appends a register's name and its value. It stays a call, since few of the registers differ at a
+/// step, and the tests of all of them are one straight line then.
+#[inline(never)]
 pub(crate) fn push_named(line: &mut Line, name: &[u8], value: u64)
     requires short { length name.now ≤ 5 }
     requires room { length line.old + 23 ≤ 1024 }
@@ -46,6 +49,7 @@ pub(crate) fn push_named(line: &mut Line, name: &[u8], value: u64)
 }
 
 /// Appends a register's name and its new value, unless it stayed the same.
+#[inline(always)]
 fn push_change(line: &mut Line, name: &[u8], same: bool, value: u64)
     requires short { length name.now ≤ 4 }
     requires room { length line.old + 23 ≤ 1024 }
@@ -59,6 +63,7 @@ fn push_change(line: &mut Line, name: &[u8], same: bool, value: u64)
 
 /// Appends a register that is a number, unless it stayed the same.
 #[tactic(auto, unfolding(crate::specs::Changes::number_change))]
+#[inline(always)]
 fn push_number(line: &mut Line, name: &[u8], old: u64, new: u64)
     requires short { length name.now ≤ 4 }
     requires room { length line.old + 23 ≤ 1024 }
@@ -69,6 +74,7 @@ fn push_number(line: &mut Line, name: &[u8], old: u64, new: u64)
 }
 
 #[tactic(auto, unfolding(crate::specs::Changes::is_same_segment))]
+#[inline(always)]
 fn is_same_segment(a: &Seg, b: &Seg) -> bool
     ensures { result ≡ spec.is_same_segment a.now b.now }
 {
@@ -76,6 +82,7 @@ fn is_same_segment(a: &Seg, b: &Seg) -> bool
 }
 
 #[tactic(auto, unfolding(crate::specs::Changes::is_same_table))]
+#[inline(always)]
 fn is_same_table(a: &Table, b: &Table) -> bool
     ensures { result ≡ spec.is_same_table a.now b.now }
 {
@@ -83,6 +90,7 @@ fn is_same_table(a: &Table, b: &Table) -> bool
 }
 
 /// Appends the selector of a segment register, where any part of it changed.
+#[inline(always)]
 fn push_segment(line: &mut Line, name: &[u8], old: &Seg, new: &Seg)
     requires short { length name.now ≤ 4 }
     requires room { length line.old + 23 ≤ 1024 }
@@ -93,6 +101,7 @@ fn push_segment(line: &mut Line, name: &[u8], old: &Seg, new: &Seg)
 }
 
 /// Appends the base of a descriptor table register, where any part of it changed.
+#[inline(always)]
 fn push_table(line: &mut Line, name: &[u8], old: &Table, new: &Table)
     requires short { length name.now ≤ 4 }
     requires room { length line.old + 23 ≤ 1024 }

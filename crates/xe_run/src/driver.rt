@@ -16,6 +16,7 @@ ghost use Rattle.xe_run.specs.Reported.{reported, led_report};
 
 use crate::batch::Batch;
 use crate::event::Event;
+use crate::line::Line;
 use crate::outside::{Failed, Sink};
 use crate::print::{print, print_all, print_memory};
 use crate::registers::{shown, with_register, with_segment, with_table};
@@ -33,8 +34,9 @@ use xe_scene::{Command, Commands, Dir, Item, Scene, ScriptBus};
 /// A machine with the devices that a scene scripts, the draft of its registers, what is intercepted, how
 /// many steps a turn has at most, and what `call` has kept of a suspended step.
 ///
-/// The report and the counts are those of the last turn or call. They stay from one to the next and
-/// are emptied, since to make them anew would cost more than a step.
+/// The report and the counts are those of the last turn or call, and the line is the last that a turn or
+/// call showed. They stay from one to the next and are emptied, since to make them anew would cost more
+/// than a step.
 #[derive(Drop)]
 pub(crate) struct Driver {
     pub(crate) machine: Machine,
@@ -46,6 +48,7 @@ pub(crate) struct Driver {
     pub(crate) report: Report,
     /// How often each access of the turn wasn't ready, by its place in the step; 0 behind the last.
     pub(crate) waits: ArrayVec<u64, 256>,
+    pub(crate) line: Line,
 }
 
 /// The RAM of regions that a scene may have, so that memory alone can be refused.
@@ -114,6 +117,7 @@ impl Driver {
             suspended: Record::new(),
             report: Report::new(),
             waits: ArrayVec::new(),
+            line: Line::new(),
         })
     }
 
@@ -182,6 +186,7 @@ impl Driver {
             self.waits.as_slice(),
             &before,
             self.machine.cpu(),
+            &mut self.line,
             out,
         )?;
         Ok(goes_on(&self.report.outcome))
@@ -281,7 +286,14 @@ impl Driver {
         match self.machine.set_cpu(self.draft) {
             Ok(()) => {
                 let kept = self.call_once();
-                tell_call(&self.report, kept, &self.draft, self.machine.cpu(), out)?;
+                tell_call(
+                    &self.report,
+                    kept,
+                    &self.draft,
+                    self.machine.cpu(),
+                    &mut self.line,
+                    out,
+                )?;
                 self.redraft();
                 Ok(())
             }

@@ -12,17 +12,50 @@ use xe_ctx::{EventKind, Handoff};
 use xe_icpt::Exit;
 use xe_opmap::Row;
 
+/// Puts the line of a device access in the place of what stood there.
+pub(crate) fn put_io(line: &mut Line, made: &Made, waits: u64)
+    ensures { line.new ≡ spec.line_of (Event.Io made.now waits) }
+{
+    line.clear();
+    line.push(b"io ");
+    push_made(line, made);
+    line.push(b" ");
+    line.push_decimal(waits);
+    line.push(b"\n");
+}
+
 /// The line of a device access.
 pub(crate) fn io_line(made: &Made, waits: u64) -> Line
     ensures { result ≡ spec.line_of (Event.Io made.now waits) }
 {
     let mut line = Line::new();
-    line.push(b"io ");
-    push_made(&mut line, made);
-    line.push(b" ");
-    line.push_decimal(waits);
-    line.push(b"\n");
+    put_io(&mut line, made, waits);
     line
+}
+
+/// Puts the line of steps that finished in the place of what stood there.
+pub(crate) fn put_step(
+    line: &mut Line,
+    row: Option<Row>,
+    count: u32,
+    before: &Cpu,
+    after: &Cpu,
+    retire: u8,
+)
+    ensures { line.new ≡ spec.line_of (Event.Step row count before.now after.now retire) }
+{
+    line.clear();
+    line.push(b"step ");
+    push_row(line, row);
+    line.push(b" ");
+    line.push_decimal(u64::from(count));
+    line.push(b" rip=");
+    line.push_hex(after.rip);
+    line.push(b" flags=");
+    line.push_hex(after.rflags);
+    push_changes(line, before, after);
+    push_retire(line, retire);
+    line.push(b"\n");
 }
 
 /// The line of steps that finished.
@@ -30,17 +63,7 @@ pub(crate) fn step_line(row: Option<Row>, count: u32, before: &Cpu, after: &Cpu,
     ensures { result ≡ spec.line_of (Event.Step row count before.now after.now retire) }
 {
     let mut line = Line::new();
-    line.push(b"step ");
-    push_row(&mut line, row);
-    line.push(b" ");
-    line.push_decimal(u64::from(count));
-    line.push(b" rip=");
-    line.push_hex(after.rip);
-    line.push(b" flags=");
-    line.push_hex(after.rflags);
-    push_changes(&mut line, before, after);
-    push_retire(&mut line, retire);
-    line.push(b"\n");
+    put_step(&mut line, row, count, before, after, retire);
     line
 }
 

@@ -8,9 +8,12 @@ ghost use Rattle.xe_run.specs.Drive as spec;
 ghost use Rattle.xe_run.specs.Reported.{count_at, with_waits};
 
 use crate::event::{Event, line_of};
+use crate::event_lines::{put_io, put_step};
+use crate::line::Line;
 use crate::outside::{Failed, Sink};
 use arrayvec::ArrayVec;
-use xe_base::Made;
+use xe_base::{Cpu, Made};
+use xe_opmap::Row;
 
 /// Writes the line of an event, in one call.
 pub(crate) fn print<K: Sink>(event: &Event, out: &mut K) -> Result<(), Failed>
@@ -21,6 +24,35 @@ pub(crate) fn print<K: Sink>(event: &Event, out: &mut K) -> Result<(), Failed>
     out.write(line_of(event).as_bytes())
 }
 
+/// Writes the line of steps that finished, in one call: that of its event, without the copies of both
+/// states in an event, and in a line that is there.
+pub(crate) fn print_step<K: Sink>(
+    row: Option<Row>,
+    count: u32,
+    before: &Cpu,
+    after: &Cpu,
+    retire: u8,
+    line: &mut Line,
+    out: &mut K,
+) -> Result<(), Failed>
+    ensures writes { Writes result (K.written out.old) (texts.line_of (Event.Step row count before.now after.now retire)) (K.written out.new) }
+    ensures count { K.faults out.old ≤ K.faults out.new }
+    ensures failed { OnErr result (Rose (K.faults out.old) (K.faults out.new)) }
+{
+    put_step(line, row, count, before, after, retire);
+    out.write(line.as_bytes())
+}
+
+/// Writes the line of a device access, in one call, in a line that is there.
+fn print_io<K: Sink>(made: &Made, waits: u64, line: &mut Line, out: &mut K) -> Result<(), Failed>
+    ensures writes { Writes result (K.written out.old) (texts.line_of (Event.Io made.now waits)) (K.written out.new) }
+    ensures count { K.faults out.old ≤ K.faults out.new }
+    ensures failed { OnErr result (Rose (K.faults out.old) (K.faults out.new)) }
+{
+    put_io(line, made, waits);
+    out.write(line.as_bytes())
+}
+
 /// The count at a place; where there is none, the device was ready at once.
 fn count_at(waits: &[u64], at: usize) -> u64
     ensures { result ≡ counted (count_at waits.now at) }
@@ -28,17 +60,11 @@ fn count_at(waits: &[u64], at: usize) -> u64
     if at < waits.len() { waits[at] } else { 0 }
 }
 
-/// A device access of a turn as an event.
-fn io_event(made: &Made, waits: u64) -> Event
-    ensures { result ≡ Event.Io made.now waits }
-{
-    Event::Io { made: *made, waits }
-}
-
-/// Writes the lines of device accesses, with the counts of replies of "not yet" at their places.
+/// Writes the lines of device accesses of a turn, with the counts of replies of "not yet" at their places.
 pub(crate) fn print_waited<K: Sink>(
     accesses: &[Made],
     waits: &[u64],
+    line: &mut Line,
     out: &mut K,
 ) -> Result<(), Failed>
     ensures writes { Writes result (K.written out.old) (text (map spec.io_event (with_waits accesses.now waits.now))) (K.written out.new) }
@@ -46,7 +72,7 @@ pub(crate) fn print_waited<K: Sink>(
     ensures failed { OnErr result (Rose (K.faults out.old) (K.faults out.new)) }
 {
     for at in 0..accesses.len() {
-        print(&io_event(&accesses[at], count_at(waits, at)), out)?;
+        print_io(&accesses[at], count_at(waits, at), line, out)?;
     }
     Ok(())
 }

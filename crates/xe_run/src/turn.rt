@@ -1,15 +1,16 @@
 //! A turn and a call, as the report tells them.
 ghost use Rattle.std.specs.Prelude.{◌≡◌, ◌≤◌, ◌<◌, ◌+◌, ◌++◌, [], ◌∷◌, ℕ, length, map, drop, OnErr};
 ghost use Rattle.xe_run.specs.Told.{Rose, Writes};
-ghost use Rattle.xe_run.specs.Text.{text};
+ghost use Rattle.xe_run.specs.Text.{text, line_of};
 ghost use Rattle.xe_run.specs.Turn.{counted};
 ghost use Rattle.xe_core.specs.Step.{is_done};
 ghost use Rattle.xe_run.specs.Drive as spec;
 ghost use Rattle.xe_run.specs.Reported.{count_at, with_waits, is_pending};
 
 use crate::event::Event;
+use crate::line::Line;
 use crate::outside::{Failed, Sink};
-use crate::print::{print, print_accesses, print_waited};
+use crate::print::{print, print_accesses, print_step, print_waited};
 use arrayvec::ArrayVec;
 use xe_base::Cpu;
 use xe_ctx::{Outcome, Report};
@@ -115,6 +116,7 @@ fn tell_steps<K: Sink>(
     report: &Report,
     before: &Cpu,
     after: &Cpu,
+    line: &mut Line,
     out: &mut K,
 ) -> Result<(), Failed>
     ensures writes { Writes result (K.written out.old) (text (spec.steps_event before.now after.now report.now.elements report.now.finished report.now.outcome)) (K.written out.new) }
@@ -127,14 +129,44 @@ fn tell_steps<K: Sink>(
     if report.elements == 0 {
         return Ok(());
     }
-    let event = Event::Step {
-        row: report.finished,
-        count: report.elements,
-        before: *before,
-        after: *after,
-        retire: 0,
-    };
-    print(&event, out)
+    let (row, count) = (report.finished, report.elements);
+    print_step(row, count, before, after, 0, line, out)
+}
+
+/// Writes the line of the event by which a turn or a call ended. It stands apart, so that where a step
+/// finished no room is made for an event.
+#[cold]
+#[inline(never)]
+fn tell_end_event<K: Sink>(
+    report: &Report,
+    before: &Cpu,
+    after: &Cpu,
+    out: &mut K,
+) -> Result<(), Failed>
+    ensures writes { Writes result (K.written out.old) (line_of (spec.end_event before.now after.now report.now.elements report.now.finished report.now.row report.now.outcome)) (K.written out.new) }
+    ensures count { K.faults out.old ≤ K.faults out.new }
+    ensures failed { OnErr result (Rose (K.faults out.old) (K.faults out.new)) }
+{
+    print(&end_event(report, before, after), out)
+}
+
+/// Writes the line of how a turn or a call ended.
+fn tell_end<K: Sink>(
+    report: &Report,
+    before: &Cpu,
+    after: &Cpu,
+    line: &mut Line,
+    out: &mut K,
+) -> Result<(), Failed>
+    ensures writes { Writes result (K.written out.old) (line_of (spec.end_event before.now after.now report.now.elements report.now.finished report.now.row report.now.outcome)) (K.written out.new) }
+    ensures count { K.faults out.old ≤ K.faults out.new }
+    ensures failed { OnErr result (Rose (K.faults out.old) (K.faults out.new)) }
+{
+    let (row, count) = (report.finished, report.elements);
+    match report.outcome {
+        Outcome::Done { retire, .. } => print_step(row, count, before, after, retire, line, out),
+        _ => tell_end_event(report, before, after, out),
+    }
 }
 
 /// Writes the lines of the last step of a turn: its accesses, and then how the turn ended.
@@ -143,14 +175,15 @@ fn tell_last_of_turn<K: Sink>(
     waits: &[u64],
     before: &Cpu,
     after: &Cpu,
+    line: &mut Line,
     out: &mut K,
 ) -> Result<(), Failed>
     ensures writes { Writes result (K.written out.old) (text (map spec.io_event (with_waits report.now.accesses.items waits.now) ++ spec.end_event before.now after.now report.now.elements report.now.finished report.now.row report.now.outcome ∷ [])) (K.written out.new) }
     ensures count { K.faults out.old ≤ K.faults out.new }
     ensures failed { OnErr result (Rose (K.faults out.old) (K.faults out.new)) }
 {
-    print_waited(report.accesses.as_slice(), waits, out)?;
-    print(&end_event(report, before, after), out)
+    print_waited(report.accesses.as_slice(), waits, line, out)?;
+    tell_end(report, before, after, line, out)
 }
 
 /// Writes the lines of a turn: the steps that finished before one that didn't, the accesses of the
@@ -160,14 +193,15 @@ pub(crate) fn tell_turn<K: Sink>(
     waits: &[u64],
     before: &Cpu,
     after: &Cpu,
+    line: &mut Line,
     out: &mut K,
 ) -> Result<(), Failed>
     ensures writes { Writes result (K.written out.old) (text (spec.steps_event before.now after.now report.now.elements report.now.finished report.now.outcome ++ (map spec.io_event (with_waits report.now.accesses.items waits.now) ++ spec.end_event before.now after.now report.now.elements report.now.finished report.now.row report.now.outcome ∷ []))) (K.written out.new) }
     ensures count { K.faults out.old ≤ K.faults out.new }
     ensures failed { OnErr result (Rose (K.faults out.old) (K.faults out.new)) }
 {
-    tell_steps(report, before, after, out)?;
-    tell_last_of_turn(report, waits, before, after, out)
+    tell_steps(report, before, after, line, out)?;
+    tell_last_of_turn(report, waits, before, after, line, out)
 }
 
 /// Writes the lines of the last step of a call: the accesses that the call answered, behind so many that
@@ -177,6 +211,7 @@ fn tell_last_of_call<K: Sink>(
     kept: usize,
     before: &Cpu,
     after: &Cpu,
+    line: &mut Line,
     out: &mut K,
 ) -> Result<(), Failed>
     ensures writes { Writes result (K.written out.old) (text (map spec.call_event (drop kept report.now.accesses.items) ++ spec.end_event before.now after.now report.now.elements report.now.finished report.now.row report.now.outcome ∷ [])) (K.written out.new) }
@@ -185,7 +220,7 @@ fn tell_last_of_call<K: Sink>(
 {
     let accesses = report.accesses.as_slice();
     print_accesses(&accesses[kept.min(accesses.len())..], out)?;
-    print(&end_event(report, before, after), out)
+    tell_end(report, before, after, line, out)
 }
 
 /// Writes the lines of a call: the steps that finished before one that didn't, the accesses that it
@@ -195,12 +230,13 @@ pub(crate) fn tell_call<K: Sink>(
     kept: usize,
     before: &Cpu,
     after: &Cpu,
+    line: &mut Line,
     out: &mut K,
 ) -> Result<(), Failed>
     ensures writes { Writes result (K.written out.old) (text (spec.steps_event before.now after.now report.now.elements report.now.finished report.now.outcome ++ (map spec.call_event (drop kept report.now.accesses.items) ++ spec.end_event before.now after.now report.now.elements report.now.finished report.now.row report.now.outcome ∷ []))) (K.written out.new) }
     ensures count { K.faults out.old ≤ K.faults out.new }
     ensures failed { OnErr result (Rose (K.faults out.old) (K.faults out.new)) }
 {
-    tell_steps(report, before, after, out)?;
-    tell_last_of_call(report, kept, before, after, out)
+    tell_steps(report, before, after, line, out)?;
+    tell_last_of_call(report, kept, before, after, line, out)
 }

@@ -13,4 +13,4 @@ returns-in_err-print_accesses-clause-writes g c =
 pub returns-clause-writes : goal.returns-clause-writes
 returns-clause-writes g c =
     let behind = drop_within c.args.report.now.accesses.items c.args.kept c.min.result (rw c.as_slice-accesses.ensures.value at c.min.ensures) in
-    rw (text-snoc (map call_event (drop c.args.kept c.args.report.now.accesses.items)) _, ← c.end_event.ensures, ← behind, ← c.as_slice-accesses.ensures.value) (writes_then _ _ _ _ _ _ c.in_ok-print_accesses.ensures.writes c.print.ensures.writes)
+    rw (text-snoc (map call_event (drop c.args.kept c.args.report.now.accesses.items)) _, ← behind, ← c.as_slice-accesses.ensures.value) (writes_then _ _ _ _ _ _ c.in_ok-print_accesses.ensures.writes c.tell_end.ensures.writes)

@@ -11,4 +11,4 @@ returns-in_err-print_waited-clause-writes g c =
 
 pub returns-clause-writes : goal.returns-clause-writes
 returns-clause-writes g c =
-    rw (text-snoc (map io_event (with_waits c.args.report.now.accesses.items c.args.waits.now)) _, ← c.end_event.ensures, ← c.as_slice.ensures.value) (writes_then _ _ _ _ _ _ c.in_ok-print_waited.ensures.writes c.print.ensures.writes)
+    rw (text-snoc (map io_event (with_waits c.args.report.now.accesses.items c.args.waits.now)) _, ← c.as_slice.ensures.value) (writes_then _ _ _ _ _ _ c.in_ok-print_waited.ensures.writes c.tell_end.ensures.writes)

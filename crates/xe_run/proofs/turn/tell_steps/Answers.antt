@@ -10,4 +10,4 @@ pub returns-then-report-eq0-clause-writes : goal.returns-then-report-eq0-clause-
 returns-then-report-eq0-clause-writes g c = nothing-written _ _ (steps-none _ _ _ _ _ (sym c.is_done.ensures ∙ c.if-is_done.false) c.if-report-eq0.true)
 
 pub returns-clause-writes : goal.returns-clause-writes
-returns-clause-writes g c = rw (steps-some c.args.before.now c.args.after.now c.args.report.now.elements c.args.report.now.finished c.args.report.now.outcome (sym c.is_done.ensures ∙ c.if-is_done.false) c.if-report-eq0.false) c.print.ensures.writes
+returns-clause-writes g c = rw (steps-some c.args.before.now c.args.after.now c.args.report.now.elements c.args.report.now.finished c.args.report.now.outcome (sym c.is_done.ensures ∙ c.if-is_done.false) c.if-report-eq0.false) c.print_step.ensures.writes
