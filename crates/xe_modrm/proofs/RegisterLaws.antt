@@ -1,4 +1,4 @@
-use Rattle.std.proofs.Common.{◌≡◌, ℕ, Bool, true, false, List, length, ◌/◌, refl, arith, sym, ◌∙◌, ap}
+use Rattle.std.proofs.Common.{◌≡◌, ℕ, Bool, true, false, List, length, ◌/◌, refl, arith, ◌∙◌, ap}
 use Rattle.std.specs.Prelude.{pos}
 use Rattle.std.proofs.lemmas.Bool.{le-ltb}
 use Rattle.xe_base.specs.Bytes.{num}
@@ -6,7 +6,7 @@ use Rattle.xe_base.specs.declared.cpu.CodeSize.{CodeSize}
 use Rattle.xe_modrm.specs.declared.part.Part.TheVariants.{Got}
 use Rattle.xe_modrm.specs.declared.part.Prefixes.{Prefixes}
 use Rattle.xe_modrm.specs.Reader.{after_bytes, continued, ◌>>=◌, given}
-use Rattle.xe_modrm.specs.Operand.{md_of, is_short, has_sib, disp_len, sib_part, disp_part, operand_of, operand_after}
+use Rattle.xe_modrm.specs.Operand.{is_short, has_sib, disp_len, sib_part, disp_part, operand_of, operand_after}
 
 no_sib : (short : Bool) (m : ℕ) → m / 64 ≡ 3 → has_sib short m ≡ false
 no_sib true m h = refl

@@ -33,7 +33,8 @@ use Rattle.xe_opmap.specs.declared.insn.Verdict.TheVariants.{Valid, Invalid, Out
 use Rattle.xe_opmap.specs.declared.insn.Decoded.{Decoded}
 use Rattle.xe_opmap.specs.declared.insn.Decoded.TheVariants as decoded
 use Rattle.xe_opmap.proofs.TableLaws.{way, way_top, takes_registers, is_live, group_live}
-use Rattle.xe_opmap.proofs.OperandLaws.{register_rest, memory_rest, one_first}
+use Rattle.xe_modrm.proofs.RegisterLaws.{register_rest}
+use Rattle.xe_opmap.proofs.OperandLaws.{memory_rest, one_first}
 use Rattle.xe_opmap.proofs.DecodeLaws.{immediates_reader, rest_reader}
 use Rattle.xe_opmap.proofs.PartsLaws.{parts_from_reads, reads_from_parts}
 use Rattle.xe_opmap.proofs.RelationLaws.{apart, cover}
