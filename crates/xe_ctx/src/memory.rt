@@ -148,7 +148,7 @@ impl<'a, B: Bus, I: Intercepts> Ctx<'a, B, I> {
     }
 
     /// The linear address of an operand, or the exception that it raises.
-    #[inline]
+    #[inline(always)]
     #[tactic(auto, using(crate::proofs::Locates::locate_rules))]
     fn locate(&mut self, seg: SegName, offset: u64, n: u32, write: bool) -> Result<u64, Stop>
         requires open { IsOpen B.sight self.old }
@@ -231,7 +231,7 @@ impl<'a, B: Bus, I: Intercepts> Ctx<'a, B, I> {
     }
 
     /// A piece is read, as the number that its bytes are: of the RAM with no list between.
-    #[inline]
+    #[inline(always)]
     #[tactic(auto, using(crate::proofs::Numbers::number_rules))]
     fn read_number(&mut self, pa: u64, n: usize) -> Result<u128, Stop>
         requires open { IsOpen B.sight self.old }
@@ -253,7 +253,7 @@ impl<'a, B: Bus, I: Intercepts> Ctx<'a, B, I> {
     }
 
     /// The number that is read there, nearly always of one page.
-    #[inline]
+    #[inline(always)]
     #[tactic(auto, using(crate::proofs::Numbers::number_rules))]
     fn load_number(&mut self, la: u64, n: usize, kind: Kind) -> Result<u128, Stop>
         requires open { IsOpen B.sight self.old }
@@ -332,7 +332,7 @@ impl<'a, B: Bus, I: Intercepts> Ctx<'a, B, I> {
     }
 
     /// A piece is written, to the RAM or to devices.
-    #[inline]
+    #[inline(always)]
     fn write_piece(&mut self, pa: u64, bytes: &[u8]) -> Result<(), Stop>
         requires open { IsOpen B.sight self.old }
         requires small { length bytes.now ≤ 16 }
@@ -353,7 +353,7 @@ impl<'a, B: Bus, I: Intercepts> Ctx<'a, B, I> {
     }
 
     /// All pieces are translated before any byte is written.
-    #[inline]
+    #[inline(always)]
     #[tactic(auto, using(crate::proofs::Stores::store_rules))]
     fn store_at(&mut self, la: u64, bytes: &[u8], kind: Kind) -> Result<(), Stop>
         requires open { IsOpen B.sight self.old }

@@ -187,7 +187,7 @@ impl Machine {
 
 impl<'a, B: Bus, I: Intercepts> Ctx<'a, B, I> {
     /// The physical address of a linear one; without paging they are the same.
-    #[inline]
+    #[inline(always)]
     pub(crate) fn place(&mut self, la: u64, kind: Kind) -> Result<u64, Stop>
         requires open { IsOpen B.sight self.old }
         requires within { la < 2 ^ bits_of (cpu_of self.old) kind }
