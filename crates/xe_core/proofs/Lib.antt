@@ -5,5 +5,4 @@ pub mod RowLaws
 pub mod CallLaws
 pub mod TurnLaws
 pub mod Turning
-pub mod TestLaws
 pub mod Worked

@@ -4,35 +4,15 @@ use crate::{emulate, emulate_into};
 use std::alloc::Global;
 use std::process::Abort;
 use std::test::Fail;
-use xe_base::{Access, Answer, Cpu, Fault, Space};
-use xe_ctx::{Bus, Machine, Outcome, Record, Reply, Report};
+use xe_base::{Access, Cpu, Fault, Space};
+use xe_ctx::{Machine, Outcome, Record, Report};
 use xe_icpt::NoHits;
-use xe_mem::{GuestMem, Region};
 use xe_opmap::Row;
+use xe_testing::Quiet;
 
-/// Devices that answer 0.
-#[derive(Drop)]
-struct Nothing;
-
-impl Bus for Nothing {
-    ghost use Rattle.std.specs.Prelude.{None};
-
-    ghost sight = { λ _. record { tape = None; room = 0; spare = λ _. 0; unready = 0; faults = 0 } };
-
-    #[tactic(auto, using(crate::proofs::TestLaws::zero_fits))]
-    fn access(&mut self, _a: Access) -> Reply {
-        Reply::Ready(Answer::Val(0))
-    }
-}
-
-/// A machine with 64 KiB at address 0.
+/// A machine with 64 KiB at address 0, and the registers of a reset.
 fn machine(alloc: Global) -> Option<Machine> {
-    let region = Region {
-        start: 0,
-        len: 1 << 16,
-    };
-    let mem = GuestMem::create(alloc, &[region]).ok()?;
-    Machine::new(mem, Cpu::reset()).ok()
+    xe_testing::machine(alloc, Cpu::reset())
 }
 
 #[test]
@@ -46,7 +26,7 @@ fn steps_end_as_their_instructions_say(rt: HostRuntime) {
     assert!(rt; m.set_cpu(cpu).is_ok());
     let mut rec = Record::new();
     // An instruction that leaves nothing to be done is one step, whatever the batch.
-    let report = emulate(&mut m, &NoHits, &mut Nothing, &mut rec, 3);
+    let report = emulate(&mut m, &NoHits, &mut Quiet, &mut rec, 3);
     assert!(rt; report.row == Some(Row::In));
     assert!(rt; report.finished == Some(Row::In));
     assert!(rt; report.elements == 1);
@@ -56,7 +36,7 @@ fn steps_end_as_their_instructions_say(rt: HostRuntime) {
         more: false,
         retire: 4,
     };
-    assert!(rt; emulate(&mut m, &NoHits, &mut Nothing, &mut rec, 1).outcome == halted);
+    assert!(rt; emulate(&mut m, &NoHits, &mut Quiet, &mut rec, 1).outcome == halted);
     cpu.rip = 0x200;
     assert!(rt; m.set_cpu(cpu).is_ok());
     let undefined = Outcome::Fault(Fault {
@@ -64,7 +44,7 @@ fn steps_end_as_their_instructions_say(rt: HostRuntime) {
         code: None,
         cr2: None,
     });
-    assert!(rt; emulate(&mut m, &NoHits, &mut Nothing, &mut rec, 1).outcome == undefined);
+    assert!(rt; emulate(&mut m, &NoHits, &mut Quiet, &mut rec, 1).outcome == undefined);
     assert!(rt; m.cpu().rip == 0x200);
 }
 
@@ -88,7 +68,7 @@ fn a_kept_answer_takes_the_place_of_the_device(rt: HostRuntime) {
     cpu.rip = 0x102;
     assert!(rt; m.set_cpu(cpu).is_ok());
     let mut report = Report::new();
-    emulate_into(&mut m, &NoHits, &mut Nothing, &mut rec, 1, &mut report);
+    emulate_into(&mut m, &NoHits, &mut Quiet, &mut rec, 1, &mut report);
     let diverged = Outcome::Diverged {
         at: 0,
         kept: read,
@@ -101,7 +81,7 @@ fn a_kept_answer_takes_the_place_of_the_device(rt: HostRuntime) {
     // The step that it belongs to goes on, and the device is asked.
     cpu.rip = 0x100;
     assert!(rt; m.set_cpu(cpu).is_ok());
-    emulate_into(&mut m, &NoHits, &mut Nothing, &mut rec, 1, &mut report);
+    emulate_into(&mut m, &NoHits, &mut Quiet, &mut rec, 1, &mut report);
     assert!(rt; report.row == Some(Row::In));
     assert!(rt; report.accesses.len() == 1);
     assert!(rt; rec.asked().is_none());
