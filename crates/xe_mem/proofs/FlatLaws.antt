@@ -17,7 +17,7 @@ pub total-cons : (r : Region) (rs : List Region) → total (r ∷ rs) ≡ r.len 
 unfolding total
 total-cons r rs = sum_by-cons (λ (r : Region). r.len) r rs
 
-total-nil : total [] ≡ 0
+pub total-nil : total [] ≡ 0
 unfolding total
 total-nil = refl
 

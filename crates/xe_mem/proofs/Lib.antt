@@ -1,3 +1,4 @@
 pub mod LayoutLaws
 pub mod FlatLaws
 pub mod MoveLaws
+pub mod SearchLaws

@@ -1,8 +1,8 @@
-use Rattle.std.specs.Prelude.{ℕ, zero, suc, ◌*◌, ◌+◌, ◌-◌, ◌≡◌, List, [], ◌∷◌, ◌++◌, length, take, drop, if◌then◌else◌}
+use Rattle.std.specs.Prelude.{ℕ, zero, suc, ◌*◌, ◌+◌, ◌-◌, ◌≡◌, List, [], ◌∷◌, ◌++◌, ◌<◌, ◌≤◌, length, take, drop, slice_index, true, if◌then◌else◌}
 use Rattle.std.proofs.lemmas.List.Edits.{sets}
 use Rattle.xe_base.specs.Ram.{Area}
 use Rattle.xe_mem.specs.declared.region.Region.{Region}
-use Rattle.xe_mem.specs.Layout.{covers, total, IsLayout}
+use Rattle.xe_mem.specs.Layout.{covers, follow, total, end_behind, IsLayout}
 
 -- The bytes of all regions in one list, one region after another.
 
@@ -25,6 +25,22 @@ place (r ∷ rs) a = if covers r a then a - r.start else r.len + place rs a
 pub record IsWhole (regions : List Region) (bytes : List ℕ) : Type 0 where
   pub layout : IsLayout regions
   pub bytes_len : length bytes ≡ total regions
+
+-- how many bytes the regions in front of each one have together
+pub record IsBefore (regions : List Region) (before : List ℕ) : Type 0 where
+  pub len : length before ≡ length regions
+  pub each : (k : ℕ) → k < length regions → slice_index before k ≡ total (take k regions)
+
+-- what the fields of a memory say of each other
+pub record IsMemory (regions : List Region) (before bytes : List ℕ) : Type 0 where
+  pub whole : IsWhole regions bytes
+  pub sums : IsBefore regions before
+
+-- no region but the one with this index can have the address: those in front end at or below it, and those behind begin above it
+pub record IsFound (regions : List Region) (a i : ℕ) : Type 0 where
+  pub within : i ≤ length regions
+  pub front : end_behind 0 (take i regions) ≤ a
+  pub behind : follow (a + 1) (drop (i + 1) regions) ≡ true
 
 -- where a search for the first address that isn't RAM stands, once it has passed these regions
 unfoldable pub gap_behind : List Region → ℕ → ℕ

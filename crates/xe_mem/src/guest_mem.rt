@@ -1,14 +1,15 @@
 //! The RAM with its bytes.
 
-ghost use Rattle.std.specs.Prelude.{◌≡◌, ℕ, ◌+◌, ◌*◌, ◌-◌, ◌<◌, ◌≤◌, ◌↔◌, length, IsTrue, IsOk, IfOk, MatchResult, List};
+ghost use Rattle.std.specs.Prelude.{◌≡◌, ℕ, ◌+◌, ◌*◌, ◌-◌, ◌<◌, ◌≤◌, ◌↔◌, length, IsTrue, IsOk, IfOk, IsSome, IfSome, MatchResult, List, false};
 ghost use Rattle.xe_base.specs.Ram.{AreRam, bytes_of, put_bytes};
 ghost use Rattle.xe_mem.specs.Layout.{IsLayout, IsFirstBad, IsTooLarge, IsGap, regions_of, zeroed};
 ghost use Rattle.xe_mem.specs.Moves.{IsUnit, filled, copied_up, copied_down};
 
 use crate::moves::{move_down, move_up, repeat};
 use crate::region::{
-    MAX_BYTES, MAX_REGIONS, MemFault, Region, copy_of, first_bad, gap_from, position, total_len,
+    MAX_BYTES, MAX_REGIONS, MemFault, Region, copy_of, first_bad, sums_before, total_len,
 };
+use crate::search::{gap_from, position, range_of};
 use arrayvec::ArrayVec;
 use std::alloc::Global;
 use std::marker::Model;
@@ -17,6 +18,8 @@ use std::marker::Model;
 #[derive(Drop)]
 pub struct GuestMem {
     regions: ArrayVec<Region, 16>,
+    /// How many bytes the regions before each one have together.
+    before: ArrayVec<u64, 16>,
     /// The bytes of all regions, one region after another.
     bytes: Vec<u8>,
 }
@@ -27,11 +30,11 @@ impl Model for GuestMem {
 
     ghost Value = { List Area };
 
-    ghost use Rattle.xe_mem.specs.Flat.{areas_of, IsWhole};
+    ghost use Rattle.xe_mem.specs.Flat.{areas_of, IsMemory};
 
     ghost view = { λ m. areas_of m.regions.items m.bytes.items };
 
-    ghost invariant = { λ m. IsWhole m.regions.items m.bytes.items };
+    ghost invariant = { λ m. IsMemory m.regions.items m.before.items m.bytes.items };
 }
 
 impl GuestMem {
@@ -64,6 +67,7 @@ impl GuestMem {
         match vec![in alloc; 0u8; len as usize] {
             Ok(bytes) => Ok(GuestMem {
                 regions: copy_of(list),
+                before: sums_before(list),
                 bytes,
             }),
             Err(_) => Err(MemFault::NoMemory),
@@ -102,7 +106,7 @@ impl GuestMem {
         requires { AreRam self.now pa (length out.old) }
         ensures { out.new ≡ bytes_of self.now pa (length out.old) }
     {
-        let at = position(self.regions.as_slice(), pa);
+        let at = position(self.regions.as_slice(), self.before.as_slice(), pa);
         out.copy_from_slice(&self.bytes[at..at + out.len()]);
     }
 
@@ -113,8 +117,39 @@ impl GuestMem {
         ensures written { self.new ≡ put_bytes self.old pa bytes.now }
         ensures same_regions { regions_of self.new ≡ regions_of self.old }
     {
-        let at = position(self.regions.as_slice(), pa);
+        let at = position(self.regions.as_slice(), self.before.as_slice(), pa);
         self.bytes[at..at + bytes.len()].copy_from_slice(bytes);
+    }
+
+    /// Reads the bytes from `pa` on, where all of them are RAM: the test and the read in one.
+    #[inline]
+    pub fn read<const N: usize>(&self, pa: u64) -> Option<[u8; N]>
+        ensures present { IsSome result ↔ AreRam self.now pa N }
+        ensures bytes { IfSome result (λ bytes. bytes ≡ bytes_of self.now pa N) }
+    {
+        let regions = self.regions.as_slice();
+        let at = range_of(regions, self.before.as_slice(), pa, N as u64)?;
+        let mut out = [0; N];
+        out.copy_from_slice(&self.bytes[at..at + N]);
+        Some(out)
+    }
+
+    /// Writes these bytes from `pa` on, where all of that is RAM, and else none of them; says
+    /// whether it wrote them.
+    #[inline]
+    pub fn write<const N: usize>(&mut self, pa: u64, bytes: [u8; N]) -> bool
+        ensures accepted { IsTrue result ↔ AreRam self.old pa N }
+        ensures written { IsTrue result → self.new ≡ put_bytes self.old pa bytes.entry }
+        ensures refused { result ≡ false → self.new ≡ self.old }
+        ensures same_regions { regions_of self.new ≡ regions_of self.old }
+    {
+        let regions = self.regions.as_slice();
+        let found = range_of(regions, self.before.as_slice(), pa, N as u64);
+        let Some(at) = found else {
+            return false;
+        };
+        self.bytes[at..at + N].copy_from_slice(&bytes);
+        true
     }
 
     /// Writes `count` units one behind another, the first at `pa`. A unit has 1, 2, 4 or 8 bytes.
@@ -124,7 +159,7 @@ impl GuestMem {
         ensures written { self.new ≡ filled self.old pa unit.now count }
         ensures same_regions { regions_of self.new ≡ regions_of self.old }
     {
-        let at = position(self.regions.as_slice(), pa);
+        let at = position(self.regions.as_slice(), self.before.as_slice(), pa);
         let count = count as usize;
         let len = unit.len() * count;
         repeat(&mut self.bytes[at..at + len], unit, count);
@@ -142,8 +177,8 @@ impl GuestMem {
         ensures written { self.new ≡ copied_up self.old dst src unit count }
         ensures same_regions { regions_of self.new ≡ regions_of self.old }
     {
-        let to = position(self.regions.as_slice(), dst);
-        let from = position(self.regions.as_slice(), src);
+        let to = position(self.regions.as_slice(), self.before.as_slice(), dst);
+        let from = position(self.regions.as_slice(), self.before.as_slice(), src);
         move_up(&mut self.bytes, to, from, unit as usize, count as usize);
     }
 
@@ -158,8 +193,8 @@ impl GuestMem {
         ensures written { self.new ≡ copied_down self.old dst src unit count }
         ensures same_regions { regions_of self.new ≡ regions_of self.old }
     {
-        let to = position(self.regions.as_slice(), dst);
-        let from = position(self.regions.as_slice(), src);
+        let to = position(self.regions.as_slice(), self.before.as_slice(), dst);
+        let from = position(self.regions.as_slice(), self.before.as_slice(), src);
         move_down(&mut self.bytes, to, from, unit as usize, count as usize);
     }
 }

@@ -9,6 +9,7 @@
 pub mod guest_mem;
 mod moves;
 pub mod region;
+mod search;
 
 pub use guest_mem::GuestMem;
 pub use region::{MAX_BYTES, MAX_REGIONS, MemFault, Region};

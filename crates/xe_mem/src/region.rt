@@ -2,7 +2,7 @@
 
 ghost use Rattle.std.specs.Prelude.{◌≡◌, ℕ, ◌+◌, ◌^◌, ◌<◌, ◌≤◌, length, take, sum_by, true, false, MatchOption};
 ghost use Rattle.xe_mem.specs.Layout.{covers, fits_after, follow, total};
-ghost use Rattle.xe_mem.specs.Flat.{place, gap_behind};
+ghost use Rattle.xe_mem.specs.Flat.{IsBefore};
 
 use arrayvec::ArrayVec;
 use thiserror::Error;
@@ -66,38 +66,6 @@ impl Region {
     }
 }
 
-/// Where the byte at `pa` lies, if those of all regions stand one region after another; their
-/// number, where `pa` isn't RAM.
-#[inline]
-pub(crate) fn position(regions: &[Region], pa: u64) -> usize
-    requires { total regions.now < 2 ^ 63 }
-    ensures { result ≡ place regions.now pa }
-{
-    let mut before = 0u64;
-    for region in regions {
-        if region.covers(pa) {
-            return (before + (pa - region.start)) as usize;
-        }
-        before += region.len;
-    }
-    before as usize
-}
-
-/// The first address from `from` on that is in none of these regions.
-#[inline]
-pub(crate) fn gap_from(regions: &[Region], from: u64) -> u64
-    requires { follow 0 regions.now ≡ true }
-    ensures { result ≡ gap_behind regions.now from }
-{
-    let mut gap = from;
-    for region in regions {
-        if region.covers(gap) {
-            gap = region.start + region.len;
-        }
-    }
-    gap
-}
-
 /// The index of the first region that doesn't fit after the ones before it.
 pub(crate) fn first_bad(list: &[Region]) -> Option<usize>
     ensures { MatchOption result (follow 0 list.now ≡ true) (λ i. (i < length list.now) × (follow 0 (take i list.now) ≡ true) × (follow 0 (take (i + 1) list.now) ≡ false)) }
@@ -113,6 +81,7 @@ pub(crate) fn first_bad(list: &[Region]) -> Option<usize>
 }
 
 /// How many bytes all regions have together.
+#[inline(never)]
 #[tactic(auto, unfolding(crate::specs::Layout::total))]
 pub(crate) fn total_len(list: &[Region]) -> u64
     requires { total list.now < 2 ^ 63 }
@@ -131,4 +100,19 @@ pub(crate) fn copy_of(list: &[Region]) -> ArrayVec<Region, 16>
         regions.push(*region);
     }
     regions
+}
+
+/// How many bytes the regions before each one have together.
+pub(crate) fn sums_before(list: &[Region]) -> ArrayVec<u64, 16>
+    requires few { length list.now ≤ 16 }
+    requires small { total list.now < 2 ^ 63 }
+    ensures { IsBefore list.now result.items }
+{
+    let mut before = ArrayVec::new();
+    let mut sum = 0;
+    for region in list {
+        before.push(sum);
+        sum += region.len;
+    }
+    before
 }

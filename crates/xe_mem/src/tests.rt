@@ -84,6 +84,43 @@ fn makes_ram(rt: HostRuntime) -> Result<(), Fail> {
     Ok(())
 }
 
+#[test]
+fn finds_each_region(rt: HostRuntime) -> Result<(), Fail> {
+    // Pairs of regions that touch, with a gap behind each pair.
+    let mut list = [region(0, PAGE); 16];
+    for i in 0..16 {
+        list[i] = region((i as u64 + i as u64 / 2) * PAGE, PAGE);
+    }
+    let mut mem = GuestMem::create(rt.alloc(), &list)?;
+    for pair in 0..8 {
+        let start = pair * 3 * PAGE;
+        let end = start + 2 * PAGE;
+        assert!(rt; mem.first_gap(start) == end);
+        assert!(rt; mem.first_gap(end - 1) == end);
+        assert!(rt; mem.first_gap(end) == end);
+        assert!(rt; mem.first_gap(end + PAGE - 1) == end + PAGE - 1);
+        let number = pair as u8;
+        assert!(rt; mem.write(start, [number, 1]));
+        assert!(rt; mem.write(start + PAGE - 1, [number, 2]));
+        assert!(rt; mem.write(end - 2, [number, 3]));
+        assert!(rt; !mem.write(end - 1, [9, 9]));
+        assert!(rt; !mem.write(end, [9]));
+    }
+    for pair in 0..8 {
+        let start = pair * 3 * PAGE;
+        let end = start + 2 * PAGE;
+        let number = pair as u8;
+        assert!(rt; mem.read(start) == Some([number, 1, 0]));
+        assert!(rt; mem.read(start + PAGE - 2) == Some([0, number, 2, 0]));
+        assert!(rt; mem.read(end - 2) == Some([number, 3]));
+        assert!(rt; mem.read::<2>(end - 1) == None);
+        assert!(rt; mem.read::<1>(end) == None);
+        assert!(rt; mem.read(end) == Some([0; 0]));
+    }
+    assert!(rt; mem.read::<8>(u64::MAX) == None);
+    Ok(())
+}
+
 /// As many bytes as there are, at most 15: how an instruction is fetched.
 fn fetched(mem: &GuestMem, pa: u64, out: &mut [u8; 15]) -> usize {
     let n = (mem.first_gap(pa) - pa).min(15) as usize;
