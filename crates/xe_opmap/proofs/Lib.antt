@@ -8,3 +8,4 @@ pub mod NeedLaws
 pub mod DraftLaws
 pub mod AllPartsLaws
 pub mod OutsideLaws
+pub mod KnownLaws

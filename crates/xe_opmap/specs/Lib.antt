@@ -7,3 +7,4 @@ pub mod Valid
 pub mod Draft
 pub mod Relations
 pub mod Parts
+pub mod Known

@@ -382,7 +382,7 @@ fn decode_part(size: CodeSize, bytes: &[u8], draft: &mut Insn) -> Part<Judgement
 }
 
 /// A draft before anything is known.
-const BLANK: Insn = Insn {
+pub(crate) const BLANK: Insn = Insn {
     row: Row::Nop,
     len: 0,
     opcode: 0,

@@ -10,6 +10,7 @@ mod groups;
 mod immediate;
 mod insn;
 mod judge;
+pub mod known;
 pub mod laws;
 mod lookup;
 mod names;
@@ -21,5 +22,6 @@ mod tests;
 
 pub use decoder::decode;
 pub use insn::{Decoded, Insn};
+pub use known::Known;
 pub use names::row_name;
 pub use row::Row;
