@@ -1,4 +1,4 @@
-use Rattle.std.proofs.Common.{ℕ, zero, suc, ◌≡◌, ◌<◌, ◌≤◌, ◌+◌, List, [], ◌∷◌, ◌++◌, length, take, drop, get_or, refl, sym, ap, ◌∙◌, arith, Result, Ok, Err, length-append, append_assoc}
+use Rattle.std.proofs.Common.{ℕ, zero, suc, ◌≡◌, ◌<◌, ◌≤◌, ◌+◌, List, [], ◌∷◌, ◌++◌, length, take, drop, get_or, refl, sym, ap, ◌∙◌, arith, Result, Ok, Err, Option, Some, None, IsSome, IfSome, length-append, append_assoc}
 use Rattle.std.proofs.lemmas.List.{take_more, take_all, length-take, append-nil}
 use Rattle.std.proofs.lemmas.Grind.{common_steps}
 use Rattle.xe_base.specs.Ram.{Area, byte_of, bytes_of}
@@ -143,3 +143,15 @@ code-full s code l is =
     let a = ends_full s (omega arith) in
     let count = a.count in
     (is ∙ take_all (length code) (avail s).bytes (omega arith), ap stop_of (sym a.why))
+
+-- where a run has 15 bytes, they are all
+pub run-whole : (s : State) (bytes : List ℕ) (pa : ℕ) → IsRun s 0 pa 15 → bytes ≡ bytes_of s.ram pa 15 → bytes ≡ (avail s).bytes
+run-whole s bytes pa r b =
+    let front : bytes ≡ take (length bytes) (avail s).bytes = run-read s [] bytes bytes 0 pa 15 refl (omega arith) refl r refl b in
+    let len : length bytes ≡ 15 = ap length b ∙ length-bytes s.ram pa 15 in
+    (code-full s bytes (omega arith) front).0
+
+-- the same of what is read where it is RAM
+pub read-whole : (s : State) (pa : ℕ) (r : Option (List ℕ)) → (IsSome r → IsRun s 0 pa 15) → IfSome r (λ b. b ≡ bytes_of s.ram pa 15) → IfSome r (λ b. b ≡ (avail s).bytes)
+read-whole s pa (Some bytes) run read = run-whole s bytes pa (run refl) read
+read-whole s pa None run read = tt

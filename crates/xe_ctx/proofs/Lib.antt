@@ -8,8 +8,8 @@ pub mod Running
 pub mod Opens
 pub mod Cut
 pub mod Work
+pub mod Changes
 pub mod Holes
-pub mod MachineLaws
 pub mod FetchLaws
 pub mod RunLaws
 pub mod AcceptLaws

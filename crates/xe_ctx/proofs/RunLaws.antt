@@ -1,6 +1,6 @@
 use Rattle.std.proofs.Common.{ℕ, zero, suc, ◌≡◌, ◌<◌, ◌≤◌, ◌+◌, ◌-◌, ◌%◌, List, refl, sym, ◌∙◌, ap, arith, true, false, Ok, Err, Some, None}
 use Rattle.xe_base.specs.Bytes.{num}
-use Rattle.xe_base.specs.Ram.{Area, in_ram, byte_of, bytes_of}
+use Rattle.xe_base.specs.Ram.{AreRam, Area, in_ram, byte_of, bytes_of}
 use Rattle.xe_base.specs.State.{pg}
 use Rattle.xe_walk.proofs.Bounds.{plain-walk}
 use Rattle.xe_walk.proofs.Together.{translates_pages_together}
@@ -44,6 +44,9 @@ placed-page s la r e = record {
       from-walk s (la + k) (record { pa = r.pa + k; used = r.used }) (rw e at t.0);
 }
 
+pub placed-less : (s : State) (la pa n m : ℕ) → m ≤ n → IsPlaced s la pa n → IsPlaced s la pa m
+placed-less s la pa n m h p = record { each = λ k l. p.each k (omega arith) }
+
 -- ---- a run
 
 allowed : (s : State) (i : ℕ) → may_fetch s.cpu i ≡ true → code_byte s i ≡ fetched_from s (code_address s.cpu i)
@@ -77,11 +80,14 @@ module _ (s : State) (i la room : ℕ) (may : MayFetch s.cpu i la room) where
         let q : fetched_at s pa ≡ Err (HandsOver (Fetch pa)) = rw out refl in
         sym (ap stopped (first-from h ∙ p ∙ q))
 
-    pub run-is : (gap len : ℕ) → len ≤ room → len ≤ n → IsGap s.ram pa gap → pa + len ≤ gap → IsRun s i pa len
-    run-is gap len h m g short = record {
-      ram = record { each = λ k l. g.before (pa + k) (omega arith) (omega arith) };
+    pub run-of : (len : ℕ) → len ≤ room → len ≤ n → AreRam s.ram pa len → IsRun s i pa len
+    run-of len h m ram = record {
+      ram = ram;
       bytes = λ k l.
-          let here : in_ram s.ram (pa + k) ≡ true = g.before (pa + k) (omega arith) (omega arith) in
+          let here : in_ram s.ram (pa + k) ≡ true = ram.each k l in
           let q : fetched_at s (pa + k) ≡ Ok (byte_of s.ram (pa + k)) = rw here refl in
           each-from k (omega arith) ∙ placed.each k (omega arith) ∙ q;
     }
+
+    pub run-is : (gap len : ℕ) → len ≤ room → len ≤ n → IsGap s.ram pa gap → pa + len ≤ gap → IsRun s i pa len
+    run-is gap len h m g short = run-of len h m (record { each = λ k l. g.before (pa + k) (omega arith) (omega arith) })

@@ -1,6 +1,8 @@
 use Rattle.std.proofs.Common.{ℕ, ◌≡◌, ◌<◌, ◌≤◌, ◌+◌, ◌-◌, ◌%◌, List, [], Result, Ok, Err, length, drop, take, arith, true, false}
 use Rattle.std.proofs.lemmas.List.{take_all, length-drop, length-take}
+use Rattle.xe_base.specs.Bytes.{le}
 use Rattle.xe_base.specs.Ram.{Area, put_bytes}
+use Rattle.xe_base.proofs.Bytes.{length-le}
 use Rattle.xe_walk.specs.declared.rights.Kind.{Kind}
 use Rattle.xe_ctx.specs.Chunks.{chunks, is_size, most}
 use Rattle.xe_ctx.specs.Is.{Sight, Does}
@@ -75,5 +77,22 @@ module _ (kind : Kind) (la : ℕ) (bytes : List ℕ) where
       let a : length (take (4096 - la % 4096) bytes) ≡ 4096 - la % 4096 = omega (arith, length-take (4096 - la % 4096) bytes) in
       let b : length (take (length bytes - (4096 - la % 4096)) (drop (4096 - la % 4096) bytes)) ≡ length bytes - (4096 - la % 4096) = omega (arith, length-take (length bytes - (4096 - la % 4096)) (drop (4096 - la % 4096) bytes), length-drop (4096 - la % 4096) bytes) in
       rw (a, b) (two-room pa pb la (length bytes) s h l p q)
+
+-- the bytes of a number
+module _ (n x : ℕ) where
+  pub number_out_there : (v : Sight) (pa : ℕ) (res : Result (Unit {0}) Stop) (w : Sight) → are_ram v.step.work pa n ≡ false → Does (devices_write pa (le n x)) v res w → Does (write_bytes pa (le n x)) v res w
+  number_out_there v pa res w f r = write_out v pa (le n x) res w (rw (length-le n x) f) r
+
+  pub number_ram : (v : Sight) (pa : ℕ) (w : List Area) (step : View) → are_ram v.step.work pa n ≡ true → w ≡ put_bytes v.step.work pa (le n x) → step ≡ record v.step { work = w } → Does (write_bytes pa (le n x)) v (Ok tt) (record v { step = step })
+  number_ram v pa w step t e is = write_ram v pa (le n x) w step (rw (length-le n x) t) e is
+
+  pub number_stored : (kind : Kind) (la : ℕ) → n ≤ 4096 - la % 4096 → {pa : ℕ} {old mid new : Sight} (res : Result (Unit {0}) Stop) → Does (place kind la) old (Ok pa) mid → Does (write_bytes pa (le n x)) mid res new → Does (store_at kind la (le n x)) old res new
+  number_stored kind la h (Ok u) r t = store_one kind la (le n x) (rw (length-le n x) h) r t
+  number_stored kind la h (Err s) r t = store_one_stop kind la (le n x) (rw (length-le n x) h) r t
+
+  pub number_unstored : (kind : Kind) (la : ℕ) {s : Stop} {old new : Sight} → Does (place kind la) old (Err s) new → Does (store_at kind la (le n x)) old (Err s) new
+  number_unstored kind la r = store_no_place kind la (le n x) r
+
+pub ruleset number_store_rules = (number_stored, number_unstored)
 
 pub ruleset store_rules = (store_one, store_one_stop, store_no_place, store_no_second, store_first_stops, store_second_stops, store_two)

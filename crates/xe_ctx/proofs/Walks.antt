@@ -25,8 +25,8 @@ use Rattle.xe_walk.specs.declared.walk.WalkStop.{WalkStop}
 use Rattle.xe_ctx.proofs.Work.{are_ram-same, are_ram-patched, in-patched}
 use Rattle.xe_ctx.specs.Memory.{are_ram}
 use Rattle.xe_ctx.specs.Translate.{page_bits, marks, marked, AreEntries}
-use Rattle.xe_ctx.specs.Work.{patched}
-use Rattle.xe_ctx.specs.declared.overlay.Cell.{Cell}
+use Rattle.xe_ctx.specs.Work.{Cell, patched, expand}
+use Rattle.xe_ctx.specs.declared.run.Run.{Run}
 
 -- Walks over the RAM as a step sees it, and the bits that they set.
 
@@ -49,8 +49,8 @@ module _ (ram : List Area) (cells : List Cell) (pa n : ℕ) (test : Bool) (to : 
 
 -- ---- one byte
 
-pub byte-is : (ram : List Area) (cells slice : List Cell) (pa : ℕ) (out : List ℕ) → slice ≡ cells → out ≡ bytes_of (patched ram slice) pa 1 → get_or out 0 0 ≡ byte_of (patched ram cells) pa
-byte-is ram cells slice pa out s e = let d : out ≡ bytes_of (patched ram cells) pa 1 = rw s at e in rw (d, bytes-one) refl
+pub byte-is : (ram : List Area) (runs slice : List Run) (pa : ℕ) (out : List ℕ) → slice ≡ runs → out ≡ bytes_of (patched ram (expand slice)) pa 1 → get_or out 0 0 ≡ byte_of (patched ram (expand runs)) pa
+byte-is ram runs slice pa out s e = let d : out ≡ bytes_of (patched ram (expand runs)) pa 1 = rw s at e in rw (d, bytes-one) refl
 
 one-put : (ram : List Area) (pa byte : ℕ) → put_bytes ram pa (byte ∷ []) ≡ put_byte ram pa byte
 unfolding put_bytes

@@ -1,11 +1,9 @@
-use Rattle.std.proofs.Common.{ℕ, zero, suc, ◌≡◌, ◌<◌, ◌≤◌, ◌+◌, ◌-◌, List, [], ◌∷◌, ◌++◌, length, take, get_or, set, refl, sym, ◌∙◌, arith, true, ◌⊎◌, Bool, inl, inr}
-use Rattle.std.proofs.lemmas.List.{take_more}
+use Rattle.std.proofs.Common.{ℕ, zero, suc, ◌≡◌, ◌<◌, ◌+◌, List, [], ◌∷◌, ◌++◌, refl, sym, ◌∙◌, arith, true, Bool, inl, inr}
 use Rattle.std.proofs.lemmas.Bool.{cases_Bool}
-use Rattle.xe_base.specs.Ram.{Area, in_ram, put_byte, bytes_of, AreRam}
-use Rattle.xe_base.proofs.Ram.{in-put, bytes-put_out, bytes-put_in}
+use Rattle.xe_base.specs.Ram.{Area, in_ram, put_byte, AreRam}
+use Rattle.xe_base.proofs.Ram.{in-put}
 use Rattle.xe_ctx.specs.Memory.{are_ram}
-use Rattle.xe_ctx.specs.Work.{patched}
-use Rattle.xe_ctx.specs.declared.overlay.Cell.{Cell}
+use Rattle.xe_ctx.specs.Work.{Cell, patched}
 
 pub patched-none : (ram : List Area) → patched ram [] ≡ ram
 unfolding patched
@@ -23,13 +21,6 @@ in-patched ram (c ∷ cells) a = in-patched (put_byte ram c.at c.byte) cells a �
 
 are-patched : (ram : List Area) (cells : List Cell) (a n : ℕ) → AreRam ram a n → AreRam (patched ram cells) a n
 are-patched ram cells a n h = record { each = λ k l. in-patched ram cells (a + k) ∙ h.each k l }
-
--- one more changed byte, within what is read and outside of it
-pub read-in : (ram : List Area) (cells : List Cell) (i pa n : ℕ) (d : Cell) (out : List ℕ) → i < length cells → AreRam ram pa n → pa ≤ (get_or cells i d).at → (get_or cells i d).at - pa < n → out ≡ bytes_of (patched ram (take i cells)) pa n → set out ((get_or cells i d).at - pa) (get_or cells i d).byte ≡ bytes_of (patched ram (take (i + 1) cells)) pa n
-read-in ram cells i pa n d out h are l m e = rw (take_more cells i d h, patched-push, e) (sym (bytes-put_in (patched ram (take i cells)) _ _ pa n (are-patched ram (take i cells) pa n are) l (omega arith)))
-
-pub read-out : (ram : List Area) (cells : List Cell) (i pa n : ℕ) (d : Cell) → i < length cells → ((get_or cells i d).at < pa) ⊎ (pa + n ≤ (get_or cells i d).at) → bytes_of (patched ram (take (i + 1) cells)) pa n ≡ bytes_of (patched ram (take i cells)) pa n
-read-out ram cells i pa n d h l = rw (take_more cells i d h, patched-push) (bytes-put_out (patched ram (take i cells)) _ _ pa n l)
 
 -- ---- the test whether bytes are RAM
 

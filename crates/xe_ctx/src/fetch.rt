@@ -1,12 +1,15 @@
 //! Fetching: the bytes of the instruction at CS:RIP, and the pages that it lies in.
 
-ghost use Rattle.std.specs.Prelude.{◌≡◌, ℕ, ◌+◌, ◌-◌, ◌<◌, ◌≤◌, ◌^◌, ◌++◌, [], length, take, Result, Ok, Err, IfOk, IfErr, OnOk, OnErr, IsOk, ◌⊎◌, true, false};
+ghost use Rattle.std.specs.Prelude.{◌≡◌, ℕ, ◌+◌, ◌-◌, ◌<◌, ◌≤◌, ◌^◌, ◌++◌, [], length, take, Result, Ok, Err, IfOk, IfErr, OnOk, OnErr, IfSome, IfNone, OnSome, IsOk, ◌⊎◌, true, false};
+ghost use Rattle.xe_base.specs.State.{code_size_of};
 ghost use Rattle.xe_ctx.specs.Accept.{accessed, code_pieces};
 ghost use Rattle.xe_ctx.specs.Ending.{stop_of, stopped};
 ghost use Rattle.xe_ctx.specs.Fetch.{avail, byte_at, code_address, code_byte, fetch_fault, fetch_kind, fetched_from, may_fetch, MayFetch, IsPlaced, IsRun};
-ghost use Rattle.xe_ctx.specs.Machine.{state_of, cells_of, made_of, work_of, CellsFit};
+ghost use Rattle.xe_ctx.specs.Machine.{state_of, cells_of, made_of, work_of, CellsFit, OnlyKnown};
 ghost use Rattle.xe_ctx.specs.Translate.{marked};
-ghost use Rattle.xe_ctx.specs.View.{view, accepts, state_in, SameHandles, IsOpen, accesses_left, bytes_left, fetched_of, code_of};
+ghost use Rattle.xe_ctx.specs.View.{view, accepts, cpu_of, state_in, SameHandles, IsOpen, accesses_left, bytes_left, fetched_of, code_of};
+ghost use Rattle.xe_opmap.specs.Encoding.{decode_part, finished};
+ghost use Rattle.xe_opmap.specs.Valid.{IsDecoded};
 ghost use Rattle.xe_walk.specs.Walk.{walk, entries};
 
 use crate::bus::Bus;
@@ -15,8 +18,9 @@ use crate::machine::Machine;
 use crate::stop::{Handoff, Stop};
 use crate::translate::ending_of;
 use arrayvec::ArrayVec;
-use xe_base::{Fault, GENERAL_PROTECTION};
+use xe_base::{CodeSize, Fault, GENERAL_PROTECTION};
 use xe_icpt::Intercepts;
+use xe_opmap::{Decoded, Insn, decode};
 use xe_walk::Kind;
 
 /// A fetch of code.
@@ -39,7 +43,7 @@ struct Run {
 }
 
 /// Puts bytes behind those of the instruction that were fetched.
-#[inline]
+#[inline(always)]
 fn append_code(code: &mut ArrayVec<u8, 15>, bytes: &[u8])
     requires { length code.old.items + length bytes.now ≤ 15 }
     ensures { code.new.items ≡ code.old.items ++ bytes.now }
@@ -61,7 +65,7 @@ impl Machine {
     /// The linear address of byte `i` behind RIP, and of how many bytes from there on the segment lets
     /// each be fetched: 0 where not even of that one. In 64-bit mode the bytes of a page are canonical
     /// together; elsewhere the limit and 4 GiB, in offsets and in addresses, are the ends.
-    #[inline]
+    #[inline(always)]
     fn code_room(&self, i: u8) -> (u64, u64)
         ensures address { result.0 ≡ code_address (state_of self.now).cpu i }
         ensures room { MayFetch (state_of self.now).cpu i result.0 result.1 }
@@ -172,6 +176,95 @@ impl Machine {
         self.fetch_fault()
     }
 
+    /// Where 15 bytes from a linear address on lie one behind another, if they lie in one page, which is
+    /// translated.
+    #[inline(never)]
+    fn page_of_15(&self, la: u64) -> Option<u64>
+        ensures { IfSome result (λ pa. IsPlaced (state_of self.now) la pa 15) }
+    {
+        if la % 4096 > 4096 - 15 {
+            return None;
+        }
+        match self.walk_at_start(la, fetch_kind()) {
+            Ok(hit) => Some(hit.pa),
+            Err(_) => None,
+        }
+    }
+
+    /// Where 15 bytes from a linear address on lie one behind another, if they do: without paging always.
+    #[inline(always)]
+    fn place_of_15(&self, la: u64) -> Option<u64>
+        ensures { IfSome result (λ pa. IsPlaced (state_of self.now) la pa 15) }
+    {
+        if !self.cpu.pg() {
+            return Some(la);
+        }
+        self.page_of_15(la)
+    }
+
+    /// The bytes of the instruction, if all 15 lie one behind another within the segment, a page and RAM, as
+    /// they nearly always do.
+    #[inline(always)]
+    fn code_at_once(&self) -> Option<[u8; 15]>
+        ensures { IfSome result (λ bytes. bytes ≡ (avail (state_of self.now)).bytes) }
+    {
+        let (la, room) = self.code_room(0);
+        if room < 15 {
+            return None;
+        }
+        let pa = self.place_of_15(la)?;
+        self.mem.read::<15>(pa)
+    }
+
+    /// The instruction, if all its bytes are read at once and it was decoded before. These bytes
+    /// are then those that were fetched.
+    #[inline(always)]
+    fn known_insn(&self, code: &mut ArrayVec<u8, 15>) -> Option<Insn>
+        requires none { code.old.items ≡ [] }
+        ensures is { IfSome result (λ insn. finished (decode_part (code_size_of (state_of self.now).cpu) (avail (state_of self.now)).bytes) ≡ Decoded.Insn insn) }
+        ensures ranges { IfSome result (λ insn. IsDecoded (code_size_of (state_of self.now).cpu) (Decoded.Insn insn)) }
+        ensures code { OnSome result (code.new.items ≡ (avail (state_of self.now)).bytes) }
+        ensures stays { IfNone result (code.new.items ≡ code.old.items) }
+    {
+        let bytes = self.code_at_once()?;
+        let size = self.cpu.code_size();
+        let insn = self.scratch.known.find(size, self.cpu.rip, &bytes)?;
+        append_code(code, &bytes);
+        Some(insn)
+    }
+
+    /// Keeps what the bytes of the instruction were decoded as, where these are 15.
+    fn keep_insn(&mut self, size: CodeSize, code: &[u8], insn: &Insn)
+        requires is { finished (decode_part size code.now) ≡ Decoded.Insn insn.now }
+        requires ranges { IsDecoded size (Decoded.Insn insn.now) }
+        ensures only { OnlyKnown self.old self.new }
+    {
+        if code.len() != 15 {
+            return;
+        }
+        let mut bytes = [0; 15];
+        bytes.copy_from_slice(code);
+        self.scratch.known.keep(size, self.cpu.rip, &bytes, insn);
+    }
+
+    /// Reads all bytes of the instruction that can be had, decodes them, and keeps the instruction.
+    #[inline(never)]
+    fn decode_anew(&mut self, code: &mut ArrayVec<u8, 15>) -> Decoded
+        requires none { code.old.items ≡ [] }
+        ensures value { result ≡ finished (decode_part (code_size_of (state_of self.old).cpu) (avail (state_of self.old)).bytes) }
+        ensures ranges { IsDecoded (code_size_of (state_of self.old).cpu) result }
+        ensures code { code.new.items ≡ (avail (state_of self.old)).bytes }
+        ensures only { OnlyKnown self.old self.new }
+    {
+        let _ = self.read_code(code);
+        let size = self.cpu.code_size();
+        let decoded = decode(size, code.as_slice());
+        if let Decoded::Insn(insn) = &decoded {
+            self.keep_insn(size, code.as_slice(), insn);
+        }
+        decoded
+    }
+
     /// Marks the page of a linear address, which is translated, as accessed.
     fn mark_page(&mut self, la: u64)
         requires translated { IsOk (walk (state_of self.old).ram (state_of self.old).cpu la fetch_kind) }
@@ -233,6 +326,38 @@ impl<'a, B: Bus, I: Intercepts> Ctx<'a, B, I> {
         ensures bytes { bytes_left self.new ≡ bytes_left self.old }
     {
         self.m.read_code(&mut self.code)
+    }
+
+    /// What the bytes of the instruction at CS:RIP that can be had begin with, as [`decode`] says of
+    /// them; where they end before it is decided, [`Ctx::missing`] says why the next one can't be had.
+    ///
+    /// An instruction that was decoded at the same RIP before, from the same bytes, isn't decoded again.
+    #[inline(always)]
+    pub fn decode(&mut self) -> Decoded
+        requires open { IsOpen B.sight self.old }
+        requires none { code_of self.old ≡ [] }
+        ensures value { result ≡ finished (decode_part (code_size_of (cpu_of self.old)) (avail (state_in self.old)).bytes) }
+        ensures ranges { IsDecoded (code_size_of (cpu_of self.old)) result }
+        ensures code { code_of self.new ≡ (avail (state_in self.old)).bytes }
+        ensures same { SameHandles self.old self.new }
+        ensures open { IsOpen B.sight self.new }
+        ensures step { view B.sight I.hits self.new ≡ view B.sight I.hits self.old }
+        ensures accesses { accesses_left self.new ≡ accesses_left self.old }
+        ensures bytes { bytes_left self.new ≡ bytes_left self.old }
+    {
+        match self.m.known_insn(&mut self.code) {
+            Some(insn) => Decoded::Insn(insn),
+            None => self.m.decode_anew(&mut self.code),
+        }
+    }
+
+    /// Why the first byte of the instruction that can't be had can't, as [`Ctx::read_code`] answers.
+    #[inline(never)]
+    pub fn missing(&self) -> Stop
+        ensures reason { result ≡ stop_of (avail (state_in self.now)).reason }
+    {
+        let mut code = ArrayVec::new();
+        self.m.read_code(&mut code)
     }
 
     /// Byte `i` of the instruction at CS:RIP; or, exactly where there are not so many that can be

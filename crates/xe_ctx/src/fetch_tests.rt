@@ -1,4 +1,4 @@
-//! Worked fetches through page tables, and in 64-bit mode.
+//! Worked fetches through page tables, and in 64-bit mode; and what is decoded.
 
 use crate::{Bus, Ctx, Handoff, Machine, Record, Reply, Stop};
 use std::alloc::Global;
@@ -7,6 +7,7 @@ use std::test::Fail;
 use xe_base::{Access, Cpu, Fault};
 use xe_icpt::NoHits;
 use xe_mem::{GuestMem, Region};
+use xe_opmap::{Decoded, Row};
 
 /// No device answers.
 #[derive(Drop)]
@@ -117,4 +118,42 @@ fn fetches_in_64_bit_mode(rt: HostRuntime) {
         cr2: None,
     };
     assert!(rt; step(&mut m, 1) == Some(Stop::Fault(refused)));
+}
+
+/// Whether a step decodes this row at CS:RIP, in one byte.
+fn decodes(m: &mut Machine, row: Row) -> bool {
+    let mut bus = Silent { asked: 0 };
+    let mut record = Record::new();
+    let mut ctx = Ctx::begin(m, &NoHits, &mut bus, &mut record);
+    match ctx.decode() {
+        Decoded::Insn(insn) => insn.row == row && insn.len == 1 && ctx.code().len() == 15,
+        Decoded::Invalid(_) | Decoded::Outside | Decoded::More => false,
+    }
+}
+
+#[test]
+fn decodes_the_bytes_that_stand_there(rt: HostRuntime) {
+    let region = Region {
+        start: 0,
+        len: 1 << 16,
+    };
+    let mem = GuestMem::create(rt.alloc(), &[region]).expect(&rt, "memory");
+    let mut cpu = Cpu::reset();
+    cpu.cs.limit = 0xF_FFFF;
+    let mut m = Machine::new(mem, cpu).ok().expect(&rt, "valid");
+    // The same NOP twice, and then HLT in its place.
+    assert!(rt; m.poke(0, &[0x90]).is_ok());
+    assert!(rt; decodes(&mut m, Row::Nop));
+    assert!(rt; decodes(&mut m, Row::Nop));
+    assert!(rt; m.poke(0, &[0xF4]).is_ok());
+    assert!(rt; decodes(&mut m, Row::Hlt));
+    // The last byte of RAM begins a jump, whose second byte isn't there.
+    assert!(rt; m.poke(0xFFFF, &[0xE9]).is_ok());
+    cpu.rip = 0xFFFF;
+    assert!(rt; m.set_cpu(cpu).is_ok());
+    let mut bus = Silent { asked: 0 };
+    let mut record = Record::new();
+    let mut ctx = Ctx::begin(&mut m, &NoHits, &mut bus, &mut record);
+    assert!(rt; ctx.decode() == Decoded::More);
+    assert!(rt; ctx.missing() == Stop::Handoff(Handoff::Fetch(0x1_0000)));
 }

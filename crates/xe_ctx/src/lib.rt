@@ -16,6 +16,7 @@ pub mod ports;
 pub mod privilege;
 pub mod record;
 pub mod report;
+mod run;
 pub mod stack;
 pub mod stop;
 mod translate;

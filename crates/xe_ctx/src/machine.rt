@@ -1,25 +1,28 @@
 //! A machine: the registers of one processor, its RAM, and the lists of its running step.
 
-ghost use Rattle.std.specs.Prelude.{◌≡◌, ◌+◌, ◌≤◌, ◌++◌, length, All, true};
+ghost use Rattle.std.specs.Prelude.{◌≡◌, length, All, true};
 ghost use Rattle.xe_base.specs.Ram.{in_ram};
 ghost use Rattle.xe_base.specs.State.{Valid};
-ghost use Rattle.xe_ctx.specs.Work.{patched};
-ghost use Rattle.xe_ctx.specs.declared.overlay.Cell.{Cell};
+ghost use Rattle.xe_ctx.specs.Work.{Cell, patched, expand};
 
 use crate::chunk::append;
-use crate::overlay::{Cell, load_patched, number_at, push_cells};
+use crate::overlay::{load_patched, number_at, push_bytes, push_number};
+use crate::run::Run;
 use arrayvec::ArrayVec;
 use xe_base::{BadState, Cpu, Made};
 use xe_mem::{GuestMem, Region};
+use xe_opmap::Known;
 
 /// The lists of the running step. They stay here from one step to the next, and a step begins by
-/// emptying them, which costs what they hold: to make them anew would fill 28 KB a step.
+/// emptying the first two, which costs what they hold: to make them anew would fill 44 KB a step.
 #[derive(Drop)]
 pub(crate) struct Scratch {
-    /// The bytes that the step has changed, the oldest first.
-    pub cells: ArrayVec<Cell, 1024>,
+    /// The stores of the step, the oldest first.
+    pub runs: ArrayVec<Run, 1024>,
     /// The accesses that it has made, with their answers.
     pub made: ArrayVec<Made, 256>,
+    /// The instructions that steps have decoded: these outlast a step.
+    pub known: Known,
 }
 
 /// A processor in a valid state, with its RAM. What its running step has in work is no part of its
@@ -42,7 +45,7 @@ pub struct NotRam {
 impl Machine {
     ghost use Rattle.std.specs.Prelude.{◌≡◌, ◌<◌, ◌≤◌, ◌+◌, ◌*◌, ◌^◌, ◌++◌, [], ◌∷◌, length, IfOk, IfErr, OnOk, OnErr, Some, None, Ok, Err, true};
     ghost use Rattle.xe_base.specs.State.{Valid, broken, answer_of};
-    ghost use Rattle.xe_base.specs.Bytes.{num};
+    ghost use Rattle.xe_base.specs.Bytes.{num, le};
     ghost use Rattle.xe_base.specs.Ram.{bytes_of, put_bytes};
     ghost use Rattle.xe_mem.specs.Layout.{regions_of};
     ghost use Rattle.xe_ctx.specs.Chunks.{is_size};
@@ -62,8 +65,9 @@ impl Machine {
                 cpu,
                 mem,
                 scratch: Scratch {
-                    cells: ArrayVec::new(),
+                    runs: ArrayVec::new(),
                     made: ArrayVec::new(),
+                    known: Known::new(),
                 },
             }),
             Err(bad) => Err((bad, mem)),
@@ -141,7 +145,7 @@ impl Machine {
         ensures cells { cells_of self.new ≡ [] }
         ensures made { made_of self.new ≡ [] }
     {
-        self.scratch.cells.clear();
+        self.scratch.runs.clear();
         self.scratch.made.clear();
     }
 
@@ -180,12 +184,7 @@ impl Machine {
         ensures { result.items ≡ bytes_of (work_of self.now) pa n }
     {
         let mut bytes = [0; 16];
-        load_patched(
-            &self.mem,
-            self.scratch.cells.as_slice(),
-            pa,
-            &mut bytes[..n],
-        );
+        load_patched(&self.mem, self.scratch.runs.as_slice(), pa, &mut bytes[..n]);
         let mut all = ArrayVec::new();
         append(&mut all, &bytes[..n]);
         all
@@ -199,7 +198,7 @@ impl Machine {
         ensures is { result ≡ num (bytes_of (work_of self.now) pa n) }
         ensures below { result < 2 ^ (8 * n) }
     {
-        number_at(&self.mem, self.scratch.cells.as_slice(), pa, n)
+        number_at(&self.mem, self.scratch.runs.as_slice(), pa, n)
     }
 
     /// The running step writes bytes of the RAM.
@@ -215,7 +214,24 @@ impl Machine {
         ensures cells { CellsFit self.new }
         ensures room { length (cells_of self.new) ≡ length (cells_of self.old) + length bytes.now }
     {
-        push_cells(&mut self.scratch.cells, pa, bytes);
+        push_bytes(&mut self.scratch.runs, pa, bytes);
+    }
+
+    /// The running step writes the low bytes of a number, of an operand's size.
+    #[inline(always)]
+    pub(crate) fn write_number(&mut self, pa: u64, n: usize, value: u128)
+        requires size { is_size n ≡ true }
+        requires room { length (cells_of self.old) + n ≤ 1024 }
+        requires fits { pa + n < 2 ^ 64 }
+        requires ram { are_ram (state_of self.old).ram pa n ≡ true }
+        requires cells { CellsFit self.old }
+        ensures state { state_of self.new ≡ state_of self.old }
+        ensures made { made_of self.new ≡ made_of self.old }
+        ensures work { work_of self.new ≡ put_bytes (work_of self.old) pa (le n value) }
+        ensures cells { CellsFit self.new }
+        ensures room { length (cells_of self.new) ≡ length (cells_of self.old) + n }
+    {
+        push_number(&mut self.scratch.runs, pa, n, value);
     }
 
     /// The running step takes effect: the registers, and the bytes that it has changed.
@@ -226,17 +242,17 @@ impl Machine {
         ensures { state_of self.new ≡ record { cpu = cpu; ram = work_of self.old } }
     {
         self.cpu = cpu;
-        apply(&mut self.mem, self.scratch.cells.as_slice());
+        apply(&mut self.mem, self.scratch.runs.as_slice());
     }
 }
 
-/// Puts the changed bytes into the RAM, the oldest first.
+/// Puts the changed bytes into the RAM, the oldest store first.
 #[inline]
-fn apply(mem: &mut GuestMem, cells: &[Cell])
-    requires { All (λ (c : Cell). in_ram mem.old c.at ≡ true) cells.now }
-    ensures { mem.new ≡ patched mem.old cells.now }
+fn apply(mem: &mut GuestMem, runs: &[Run])
+    requires { All (λ (c : Cell). in_ram mem.old c.at ≡ true) (expand runs.now) }
+    ensures { mem.new ≡ patched mem.old (expand runs.now) }
 {
-    for c in cells {
-        mem.store(c.at, &[c.byte]);
+    for run in runs {
+        run.put(mem);
     }
 }

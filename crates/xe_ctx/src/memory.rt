@@ -3,16 +3,16 @@
 #![tactic(auto, using(crate::proofs::Binds::part_rules))]
 
 ghost use Rattle.std.specs.Prelude.{◌≡◌, ℕ, ◌+◌, ◌*◌, ◌<◌, ◌≤◌, ◌^◌, ◌%◌, length, IfOk, true};
-ghost use Rattle.xe_base.specs.Bytes.{num};
+ghost use Rattle.xe_base.specs.Bytes.{num, le};
 ghost use Rattle.xe_ctx.specs.Chunks.{chunks, is_size, most};
 ghost use Rattle.xe_ctx.specs.Is.{Does, Is};
-ghost use Rattle.xe_ctx.specs.Memory.{data_kind, system_kind, system_bits, is_wide, bits_of, next_page, read_place, devices_read, write_bytes, load_at, store_at, probe_at, locate};
+ghost use Rattle.xe_ctx.specs.Memory.{data_kind, system_kind, system_bits, is_wide, bits_of, next_page, read_place, devices_read, devices_write, write_bytes, load_at, store_at, probe_at, locate};
 ghost use Rattle.xe_ctx.specs.Numbers.{numbered};
 ghost use Rattle.xe_ctx.specs.Tree.{load, load_for_write, probe, store, load_sys, store_sys};
 ghost use Rattle.xe_ctx.specs.View.{view, cpu_of, SameHandles, IsOpen, accesses_left, bytes_left, bytes_in};
 
 use crate::bus::Bus;
-use crate::chunk::{all_bytes, append, number_of};
+use crate::chunk::{append, bytes_of, number_of};
 use crate::ctx::Ctx;
 use crate::stop::Stop;
 use arrayvec::ArrayVec;
@@ -24,6 +24,7 @@ use xe_walk::Kind;
 impl<'a, B: Bus, I: Intercepts> Ctx<'a, B, I> {
     /// Reads `n` bytes at an offset of a segment, the lowest first. Those outside RAM are read from
     /// devices, by naturally aligned accesses of at most 8 bytes, the lowest first.
+    #[inline(never)]
     #[tactic(auto, using(crate::proofs::Calls::call_rules))]
     pub fn load(&mut self, seg: SegName, offset: u64, n: u32) -> Result<u128, Stop>
         requires open { IsOpen B.sight self.old }
@@ -42,6 +43,7 @@ impl<'a, B: Bus, I: Intercepts> Ctx<'a, B, I> {
     }
 
     /// Reads as [`Ctx::load`] does, where the bytes must be writable too.
+    #[inline(never)]
     #[tactic(auto, using(crate::proofs::Calls::call_rules))]
     pub fn load_for_write(&mut self, seg: SegName, offset: u64, n: u32) -> Result<u128, Stop>
         requires open { IsOpen B.sight self.old }
@@ -78,6 +80,7 @@ impl<'a, B: Bus, I: Intercepts> Ctx<'a, B, I> {
     /// Writes the `n` bytes of a number at an offset of a segment, the lowest first. RAM changes
     /// only where the step is committed; the bytes outside RAM go to devices at once, as in
     /// [`Ctx::load`].
+    #[inline(never)]
     #[tactic(auto, using(crate::proofs::Calls::call_rules))]
     pub fn store(&mut self, seg: SegName, offset: u64, n: u32, value: u128) -> Result<(), Stop>
         requires open { IsOpen B.sight self.old }
@@ -92,8 +95,7 @@ impl<'a, B: Bus, I: Intercepts> Ctx<'a, B, I> {
         ensures part { Is (store seg offset n value) (view B.sight I.hits self.old) result (view B.sight I.hits self.new) }
     {
         let la = self.locate(seg, offset, n, true)?;
-        let all = all_bytes(value);
-        self.store_at(la, &all[..n as usize], data_kind(true))
+        self.store_number(la, n as usize, value, data_kind(true))
     }
 
     /// Reads `n` bytes of a descriptor table or of the TSS at a linear address, the lowest first: without a
@@ -131,8 +133,7 @@ impl<'a, B: Bus, I: Intercepts> Ctx<'a, B, I> {
         ensures part { Is (store_sys la n value) (view B.sight I.hits self.old) result (view B.sight I.hits self.new) }
     {
         let at = self.system_address(la);
-        let all = all_bytes(value);
-        self.store_at(at, &all[..n as usize], system_kind(true))
+        self.store_number(at, n as usize, value, system_kind(true))
     }
 
     /// The address of a system access, which has 64 bits in long mode and 32 elsewhere.
@@ -331,8 +332,89 @@ impl<'a, B: Bus, I: Intercepts> Ctx<'a, B, I> {
         Ok(())
     }
 
-    /// A piece is written, to the RAM or to devices.
+    /// The low bytes of a number are written to devices.
+    #[inline(never)]
+    fn number_to_devices(&mut self, pa: u64, n: usize, value: u128) -> Result<(), Stop>
+        requires open { IsOpen B.sight self.old }
+        requires small { n ≤ 16 }
+        requires fits { pa < 2 ^ 52 }
+        requires accesses { length (chunks pa n) ≤ accesses_left self.old }
+        ensures same { SameHandles self.old self.new }
+        ensures open { IsOpen B.sight self.new }
+        ensures accesses { accesses_left self.old ≤ accesses_left self.new + length (chunks pa n) }
+        ensures bytes { bytes_left self.new ≡ bytes_left self.old }
+        ensures part { Does (devices_write pa (le n value)) (view B.sight I.hits self.old) result (view B.sight I.hits self.new) }
+    {
+        let bytes = bytes_of(n, value);
+        self.write_devices(pa, bytes.as_slice())
+    }
+
+    /// A piece is written with the low bytes of a number: to the RAM as one, or to devices.
     #[inline(always)]
+    fn write_number(&mut self, pa: u64, n: usize, value: u128) -> Result<(), Stop>
+        requires open { IsOpen B.sight self.old }
+        requires size { is_size n ≡ true }
+        requires small { n ≤ 16 }
+        requires fits { pa < 2 ^ 52 }
+        requires accesses { length (chunks pa n) ≤ accesses_left self.old }
+        requires bytes { n ≤ bytes_left self.old }
+        ensures same { SameHandles self.old self.new }
+        ensures open { IsOpen B.sight self.new }
+        ensures accesses { accesses_left self.old ≤ accesses_left self.new + length (chunks pa n) }
+        ensures bytes { bytes_left self.old ≤ bytes_left self.new + n }
+        ensures part { Does (write_bytes pa (le n value)) (view B.sight I.hits self.old) result (view B.sight I.hits self.new) }
+    {
+        if !self.m.is_ram(pa, n as u64) {
+            return self.number_to_devices(pa, n, value);
+        }
+        self.m.write_number(pa, n, value);
+        Ok(())
+    }
+
+    /// The low bytes of a number are written, nearly always in one page.
+    #[inline(always)]
+    #[tactic(auto, using(crate::proofs::Stores::number_store_rules))]
+    fn store_number(&mut self, la: u64, n: usize, value: u128, kind: Kind) -> Result<(), Stop>
+        requires open { IsOpen B.sight self.old }
+        requires size { is_size n ≡ true }
+        requires small { n ≤ 16 }
+        requires accesses { most n ≤ accesses_left self.old }
+        requires within { la < 2 ^ bits_of (cpu_of self.old) kind }
+        requires bytes { 10 + n ≤ bytes_left self.old }
+        ensures same { SameHandles self.old self.new }
+        ensures open { IsOpen B.sight self.new }
+        ensures accesses { accesses_left self.old ≤ accesses_left self.new + most n }
+        ensures bytes { bytes_left self.old ≤ bytes_left self.new + (10 + n) }
+        ensures part { Does (store_at kind la (le n value)) (view B.sight I.hits self.old) result (view B.sight I.hits self.new) }
+    {
+        let room = 4096 - (la % 4096) as usize;
+        if n <= room {
+            let pa = self.place(la, kind)?;
+            return self.write_number(pa, n, value);
+        }
+        self.store_across(la, n, value, kind)
+    }
+
+    /// The low bytes of a number are written, of which some lie in the next page.
+    #[inline(never)]
+    fn store_across(&mut self, la: u64, n: usize, value: u128, kind: Kind) -> Result<(), Stop>
+        requires open { IsOpen B.sight self.old }
+        requires size { is_size n ≡ true }
+        requires small { n ≤ 16 }
+        requires accesses { most n ≤ accesses_left self.old }
+        requires within { la < 2 ^ bits_of (cpu_of self.old) kind }
+        requires bytes { 10 + n ≤ bytes_left self.old }
+        ensures same { SameHandles self.old self.new }
+        ensures open { IsOpen B.sight self.new }
+        ensures accesses { accesses_left self.old ≤ accesses_left self.new + most n }
+        ensures bytes { bytes_left self.old ≤ bytes_left self.new + (10 + n) }
+        ensures part { Does (store_at kind la (le n value)) (view B.sight I.hits self.old) result (view B.sight I.hits self.new) }
+    {
+        let bytes = bytes_of(n, value);
+        self.store_at(la, bytes.as_slice(), kind)
+    }
+
+    /// A piece is written, to the RAM or to devices.
     fn write_piece(&mut self, pa: u64, bytes: &[u8]) -> Result<(), Stop>
         requires open { IsOpen B.sight self.old }
         requires small { length bytes.now ≤ 16 }
@@ -353,7 +435,6 @@ impl<'a, B: Bus, I: Intercepts> Ctx<'a, B, I> {
     }
 
     /// All pieces are translated before any byte is written.
-    #[inline(always)]
     #[tactic(auto, using(crate::proofs::Stores::store_rules))]
     fn store_at(&mut self, la: u64, bytes: &[u8], kind: Kind) -> Result<(), Stop>
         requires open { IsOpen B.sight self.old }

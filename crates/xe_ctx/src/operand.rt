@@ -35,6 +35,7 @@ pub enum Operand {
 }
 
 /// Whether a REX byte stands before the opcode.
+#[inline(always)]
 pub fn has_rex(insn: &Insn) -> bool
     ensures { result ≡ has_rex insn.now }
 {
@@ -42,6 +43,7 @@ pub fn has_rex(insn: &Insn) -> bool
 }
 
 /// One byte where the opcode's last bit is clear, else the operand size.
+#[inline(always)]
 pub fn size_by_opcode(insn: &Insn, cpu: &Cpu) -> u8
     requires { IsOf cpu.now insn.now }
     ensures value { result ≡ size_by_opcode insn.now }
@@ -51,6 +53,7 @@ pub fn size_by_opcode(insn: &Insn, cpu: &Cpu) -> u8
 }
 
 /// Where the operand of a ModRM byte lies.
+#[inline(always)]
 fn operand_at(insn: &Insn, cpu: &Cpu, modrm: &ModRm) -> Operand
     requires insn { IsOf cpu.now insn.now }
     requires modrm { IsModRm modrm.now }
@@ -66,6 +69,7 @@ fn operand_at(insn: &Insn, cpu: &Cpu, modrm: &ModRm) -> Operand
 }
 
 /// The operand E of the ModRM byte (SDM volume 2, appendix A); without one the accumulator.
+#[inline(always)]
 #[tactic(auto, unfolding(crate::specs::Operand::operand_of))]
 pub fn operand_of(insn: &Insn, cpu: &Cpu) -> Operand
     requires { IsOf cpu.now insn.now }
@@ -79,6 +83,7 @@ pub fn operand_of(insn: &Insn, cpu: &Cpu) -> Operand
 }
 
 /// The register G of the ModRM byte; without one the accumulator.
+#[inline(always)]
 pub fn reg_of(insn: &Insn, cpu: &Cpu) -> u8
     requires { IsOf cpu.now insn.now }
     ensures value { result ≡ reg_of insn.now }
@@ -91,6 +96,7 @@ pub fn reg_of(insn: &Insn, cpu: &Cpu) -> u8
 }
 
 /// The register of the opcode's last three bits, with REX.B.
+#[inline(always)]
 pub fn opcode_register(insn: &Insn) -> u8
     ensures value { result ≡ opcode_register insn.now }
     ensures register { result < 16 }
@@ -103,6 +109,7 @@ pub fn opcode_register(insn: &Insn) -> u8
 }
 
 /// The number in a general register, at a width in bytes.
+#[inline(always)]
 pub fn read_register(insn: &Insn, cpu: &Cpu, size: u8, register: u8) -> u64
     requires size { IsTrue (is_size size) }
     requires register { register < 16 }
@@ -112,6 +119,7 @@ pub fn read_register(insn: &Insn, cpu: &Cpu, size: u8, register: u8) -> u64
 }
 
 /// Writes a general register at a width in bytes.
+#[inline(always)]
 pub fn write_register(insn: &Insn, cpu: &mut Cpu, size: u8, register: u8, value: u64)
     requires size { IsTrue (is_size size) }
     requires register { register < 16 }
@@ -121,6 +129,7 @@ pub fn write_register(insn: &Insn, cpu: &mut Cpu, size: u8, register: u8, value:
 }
 
 /// Reads an operand.
+#[inline(always)]
 #[tactic(auto, using(crate::proofs::Trees::row_rules), unfolding(crate::specs::Operand::read_operand))]
 pub fn read_operand<B: Bus, I: Intercepts>(
     insn: &Insn,
@@ -143,6 +152,7 @@ pub fn read_operand<B: Bus, I: Intercepts>(
 }
 
 /// Reads an operand that is written afterwards: memory has to be writable.
+#[inline(always)]
 #[tactic(auto, using(crate::proofs::Trees::row_rules), unfolding(crate::specs::Operand::read_for_write))]
 pub fn read_for_write<B: Bus, I: Intercepts>(
     insn: &Insn,
@@ -165,6 +175,7 @@ pub fn read_for_write<B: Bus, I: Intercepts>(
 }
 
 /// The low bytes of a number.
+#[inline(always)]
 pub fn cut(value: u64, size: u8) -> u128
     requires { IsTrue (is_size size) }
     ensures { result ≡ value % 2 ^ (8 * size) }
@@ -179,6 +190,7 @@ pub fn cut(value: u64, size: u8) -> u128
 }
 
 /// Writes the low bytes of a number to an operand: a register in the draft, or memory.
+#[inline(always)]
 #[tactic(auto, using(crate::proofs::Trees::row_rules), unfolding(crate::specs::Operand::write_operand))]
 pub fn write_operand<B: Bus, I: Intercepts>(
     insn: &Insn,
@@ -206,6 +218,7 @@ pub fn write_operand<B: Bus, I: Intercepts>(
 }
 
 /// The instruction is done: RIP goes behind it.
+#[inline(always)]
 pub fn done(insn: &Insn, cpu: &mut Cpu) -> End
     ensures registers { cpu.new ≡ record cpu.old { rip = next_rip cpu.old insn.now.len } }
     ensures plain { result ≡ record { more = false; retire = 0 } }

@@ -1,35 +1,27 @@
 //! The bytes of RAM that a step has changed, and the RAM as the step sees it.
 
 ghost use Rattle.std.specs.Prelude.{◌≡◌, ℕ, ◌+◌, ◌*◌, ◌<◌, ◌≤◌, ◌^◌, true, length, All, List};
-ghost use Rattle.arrayvec.specs.ArrayVec.{array_vec_len};
-ghost use Rattle.xe_base.specs.Bytes.{num};
+ghost use Rattle.xe_base.specs.Bytes.{num, le};
 ghost use Rattle.xe_base.specs.Ram.{Area, in_ram, bytes_of, put_bytes, AreRam};
 ghost use Rattle.xe_ctx.specs.Chunks.{is_size};
-ghost use Rattle.xe_ctx.specs.Work.{patched};
-ghost use Rattle.xe_ctx.specs.declared.overlay.Cell.{Cell};
+ghost use Rattle.xe_ctx.specs.Work.{Cell, patched, expand};
 
 use crate::chunk::number_of;
+use crate::run::Run;
 use arrayvec::ArrayVec;
 use xe_mem::GuestMem;
 
-/// A byte that the step has changed.
-#[derive(Clone, Copy, PartialEq, Eq, Debug, Default)]
-pub(crate) struct Cell {
-    pub at: u64,
-    pub byte: u8,
-}
-
-/// Reads bytes of the RAM as the step sees it: the changed bytes, the oldest first, over those of
-/// the RAM.
+/// Reads bytes of the RAM as the step sees it: those that its stores changed, the oldest store first, over
+/// those of the RAM.
 #[inline(always)]
-pub(crate) fn load_patched(mem: &GuestMem, cells: &[Cell], pa: u64, out: &mut [u8])
+pub(crate) fn load_patched(mem: &GuestMem, runs: &[Run], pa: u64, out: &mut [u8])
     requires { AreRam mem.now pa (length out.old) }
-    ensures { out.new ≡ bytes_of (patched mem.now cells.now) pa (length out.old) }
+    ensures { out.new ≡ bytes_of (patched mem.now (expand runs.now)) pa (length out.old) }
 {
     mem.load(pa, out);
-    for c in cells {
-        if pa <= c.at && c.at - pa < out.len() as u64 {
-            out[(c.at - pa) as usize] = c.byte;
+    for run in runs {
+        if run.meets(pa, out.len() as u64) {
+            run.lay_over(pa, out);
         }
     }
 }
@@ -37,47 +29,61 @@ pub(crate) fn load_patched(mem: &GuestMem, cells: &[Cell], pa: u64, out: &mut [u
 /// The number that N bytes of the RAM are, as the step sees it. Their count is a constant, so that they are
 /// moved as one.
 #[inline]
-fn word<const N: usize>(mem: &GuestMem, cells: &[Cell], pa: u64) -> u128
+fn word<const N: usize>(mem: &GuestMem, runs: &[Run], pa: u64) -> u128
     requires small { N ≤ 16 }
     requires ram { AreRam mem.now pa N }
-    ensures is { result ≡ num (bytes_of (patched mem.now cells.now) pa N) }
+    ensures is { result ≡ num (bytes_of (patched mem.now (expand runs.now)) pa N) }
     ensures below { result < 2 ^ (8 * N) }
 {
     let mut bytes = [0; N];
-    load_patched(mem, cells, pa, &mut bytes);
+    load_patched(mem, runs, pa, &mut bytes);
     number_of(&bytes)
 }
 
 /// The number that the bytes of an operand are, in the RAM as the step sees it.
 #[inline]
-pub(crate) fn number_at(mem: &GuestMem, cells: &[Cell], pa: u64, n: usize) -> u128
+pub(crate) fn number_at(mem: &GuestMem, runs: &[Run], pa: u64, n: usize) -> u128
     requires size { is_size n ≡ true }
     requires ram { AreRam mem.now pa n }
-    ensures is { result ≡ num (bytes_of (patched mem.now cells.now) pa n) }
+    ensures is { result ≡ num (bytes_of (patched mem.now (expand runs.now)) pa n) }
     ensures below { result < 2 ^ (8 * n) }
 {
     match n {
-        1 => word::<1>(mem, cells, pa),
-        2 => word::<2>(mem, cells, pa),
-        4 => word::<4>(mem, cells, pa),
-        8 => word::<8>(mem, cells, pa),
-        _ => word::<16>(mem, cells, pa),
+        1 => word::<1>(mem, runs, pa),
+        2 => word::<2>(mem, runs, pa),
+        4 => word::<4>(mem, runs, pa),
+        8 => word::<8>(mem, runs, pa),
+        _ => word::<16>(mem, runs, pa),
     }
 }
 
-/// The step writes bytes of the RAM.
+/// The step writes the low bytes of a number, which are kept as one store.
 #[inline]
-pub(crate) fn push_cells(cells: &mut ArrayVec<Cell, 1024>, pa: u64, bytes: &[u8])
-    requires room { array_vec_len cells.old + length bytes.now ≤ 1024 }
+pub(crate) fn push_number(runs: &mut ArrayVec<Run, 1024>, pa: u64, n: usize, value: u128)
+    requires size { is_size n ≡ true }
+    requires room { length (expand runs.old.items) + n ≤ 1024 }
+    requires fits { pa + n < 2 ^ 64 }
+    ensures room { length (expand runs.new.items) ≡ length (expand runs.old.items) + n }
+    ensures is { (ram : List Area) → patched ram (expand runs.new.items) ≡ put_bytes (patched ram (expand runs.old.items)) pa (le n value) }
+    ensures in_ram { (ram : List Area) → AreRam ram pa n → All (λ (c : Cell). in_ram ram c.at ≡ true) (expand runs.old.items) → All (λ (c : Cell). in_ram ram c.at ≡ true) (expand runs.new.items) }
+{
+    runs.push(Run {
+        at: pa,
+        size: n as u8,
+        value,
+    });
+}
+
+/// The step writes bytes of the RAM, each as a store of its own.
+#[inline(never)]
+pub(crate) fn push_bytes(runs: &mut ArrayVec<Run, 1024>, pa: u64, bytes: &[u8])
+    requires room { length (expand runs.old.items) + length bytes.now ≤ 1024 }
     requires fits { pa + length bytes.now < 2 ^ 64 }
-    ensures room { array_vec_len cells.new ≡ array_vec_len cells.old + length bytes.now }
-    ensures is { (ram : List Area) → patched ram cells.new.items ≡ put_bytes (patched ram cells.old.items) pa bytes.now }
-    ensures in_ram { (ram : List Area) → AreRam ram pa (length bytes.now) → All (λ (c : Cell). in_ram ram c.at ≡ true) cells.old.items → All (λ (c : Cell). in_ram ram c.at ≡ true) cells.new.items }
+    ensures room { length (expand runs.new.items) ≡ length (expand runs.old.items) + length bytes.now }
+    ensures is { (ram : List Area) → patched ram (expand runs.new.items) ≡ put_bytes (patched ram (expand runs.old.items)) pa bytes.now }
+    ensures in_ram { (ram : List Area) → AreRam ram pa (length bytes.now) → All (λ (c : Cell). in_ram ram c.at ≡ true) (expand runs.old.items) → All (λ (c : Cell). in_ram ram c.at ≡ true) (expand runs.new.items) }
 {
     for (i, b) in bytes.iter().enumerate() {
-        cells.push(Cell {
-            at: pa + i as u64,
-            byte: *b,
-        });
+        push_number(runs, pa + i as u64, 1, u128::from(*b));
     }
 }

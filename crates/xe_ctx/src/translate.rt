@@ -13,12 +13,13 @@ ghost use Rattle.xe_ctx.specs.Machine.{state_of, cells_of, made_of, work_of, Cel
 ghost use Rattle.xe_ctx.specs.Memory.{bits_of, place};
 ghost use Rattle.xe_ctx.specs.Translate.{page_bits, marks, marked, walk_ending, AreEntries};
 ghost use Rattle.xe_ctx.specs.View.{view, cpu_of, SameHandles, IsOpen, accesses_left, bytes_left};
-ghost use Rattle.xe_ctx.specs.Work.{patched};
+ghost use Rattle.xe_ctx.specs.Work.{patched, expand};
 
 use crate::bus::Bus;
 use crate::ctx::Ctx;
 use crate::machine::Machine;
-use crate::overlay::{Cell, load_patched, number_at};
+use crate::overlay::{load_patched, number_at};
+use crate::run::Run;
 use crate::stop::{Handoff, Stop};
 use xe_icpt::Intercepts;
 use xe_mem::GuestMem;
@@ -28,33 +29,33 @@ use xe_walk::{Hit, Kind, Phys, Used, WalkStop, limiting, translate};
 #[derive(Drop)]
 struct Working<'a> {
     mem: &'a GuestMem,
-    cells: &'a [Cell],
+    runs: &'a [Run],
     reads: u64,
 }
 
 impl<'a> Phys for Working<'a> {
-    ghost use Rattle.xe_ctx.specs.Work.{patched};
+    ghost use Rattle.xe_ctx.specs.Work.{patched, expand};
 
-    ghost ram = { λ w. patched w.mem.now w.cells.now };
+    ghost ram = { λ w. patched w.mem.now (expand w.runs.now) };
 
     ghost reads = { λ w. w.reads };
 
     fn entry(&mut self, pa: u64, size: u8) -> Option<u64> {
         self.reads = self.reads.saturating_add(1);
-        entry_in(self.mem, self.cells, pa, size)
+        entry_in(self.mem, self.runs, pa, size)
     }
 }
 
 /// The entry of 4 or 8 bytes there, as the step sees it; none where one of its bytes isn't RAM.
 #[inline]
-fn entry_in(mem: &GuestMem, cells: &[Cell], pa: u64, size: u8) -> Option<u64>
+fn entry_in(mem: &GuestMem, runs: &[Run], pa: u64, size: u8) -> Option<u64>
     requires { (size ≡ 4) ⊎ (size ≡ 8) }
-    ensures { result ≡ entry_of (patched mem.now cells.now) pa size }
+    ensures { result ≡ entry_of (patched mem.now (expand runs.now)) pa size }
 {
     if !mem.is_ram(pa, size as u64) {
         return None;
     }
-    Some(number_at(mem, cells, pa, size as usize) as u64)
+    Some(number_at(mem, runs, pa, size as usize) as u64)
 }
 
 /// What is set in an entry: accessed, and dirty in the last one for a write.
@@ -77,19 +78,19 @@ pub(crate) fn ending_of(refused: WalkStop) -> Stop
 }
 
 impl Machine {
-    /// Translates a linear address over the RAM with these changed bytes.
+    /// Translates a linear address over the RAM with these changes.
     #[inline]
-    fn walk_over(&self, cells: &[Cell], la: u64, kind: Kind) -> Result<Hit, WalkStop>
-        ensures is { walked result ≡ walk (patched (state_of self.now).ram cells.now) (state_of self.now).cpu la kind }
+    fn walk_over(&self, runs: &[Run], la: u64, kind: Kind) -> Result<Hit, WalkStop>
+        ensures is { walked result ≡ walk (patched (state_of self.now).ram (expand runs.now)) (state_of self.now).cpu la kind }
         ensures page { IfOk result (λ hit. hit.pa % 4096 ≡ la % 4096) }
         ensures below { pg (state_of self.now).cpu ≡ true → IfOk result (λ hit. hit.pa < 2 ^ 40) }
         ensures few { IfOk result (λ hit. length hit.used.items ≤ 4) }
         ensures ram { IfOk result (λ hit. AreEntries (state_of self.now).ram hit.used.items) }
-        ensures visits { IfOk result (λ hit. hit.used.items ≡ entries (patched (state_of self.now).ram cells.now) (state_of self.now).cpu la) }
+        ensures visits { IfOk result (λ hit. hit.used.items ≡ entries (patched (state_of self.now).ram (expand runs.now)) (state_of self.now).cpu la) }
     {
         let mut working = Working {
             mem: &self.mem,
-            cells,
+            runs,
             reads: 0,
         };
         translate(&self.cpu, &mut working, la, kind)
@@ -104,12 +105,12 @@ impl Machine {
         ensures few { IfOk result (λ hit. length hit.used.items ≤ 4) }
         ensures ram { IfOk result (λ hit. AreEntries (state_of self.now).ram hit.used.items) }
     {
-        self.walk_over(self.scratch.cells.as_slice(), la, kind)
+        self.walk_over(self.scratch.runs.as_slice(), la, kind)
     }
 
     /// Translates a linear address over the RAM as it was when the step began: so does fetching.
     #[inline]
-    #[tactic(auto, unfolding(crate::specs::Work::patched))]
+    #[tactic(auto, unfolding(crate::specs::Work::patched, crate::specs::Work::expand))]
     pub(crate) fn walk_at_start(&self, la: u64, kind: Kind) -> Result<Hit, WalkStop>
         ensures is { walked result ≡ walk (state_of self.now).ram (state_of self.now).cpu la kind }
         ensures few { IfOk result (λ hit. length hit.used.items ≤ 4) }
@@ -126,7 +127,7 @@ impl Machine {
         ensures { result ≡ byte_of (work_of self.now) pa }
     {
         let mut byte = [0; 1];
-        load_patched(&self.mem, self.scratch.cells.as_slice(), pa, &mut byte);
+        load_patched(&self.mem, self.scratch.runs.as_slice(), pa, &mut byte);
         byte[0]
     }
 

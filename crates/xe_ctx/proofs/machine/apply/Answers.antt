@@ -1,13 +1,12 @@
 use Rattle.std.proofs.Common.{sym}
-use Rattle.xe_ctx.proofs.Work.{patched-none}
-use Rattle.xe_ctx.proofs.MachineLaws.{cell-are, cell-step}
+use Rattle.xe_ctx.proofs.Changes.{unchanged, run-are, run-put}
 use Rattle.xe_ctx.proofs.machine.apply.Goals as goal
 
-pub loop-c-init : goal.loop-c-init
-loop-c-init c = sym (patched-none c.args.mem.now)
+pub loop-run-init : goal.loop-run-init
+loop-run-init c = unchanged c.args.mem.now
 
-pub store-requires : goal.store-requires
-store-requires c = cell-are _ _ _ _ (record { at = 0; byte = 0 }) c.requires c.loop-c-test.true c.loop-c.invariant
+pub put-requires : goal.put-requires
+put-requires c = run-are _ _ _ _ _ _ (sym c.run-item.is) c.requires c.loop-run-test.true c.loop-run.invariant
 
-pub loop-c-preserved : goal.loop-c-preserved
-loop-c-preserved c = cell-step _ _ _ _ _ (record { at = 0; byte = 0 }) c.loop-c-test.true c.store.ensures.written c.loop-c.invariant
+pub loop-run-preserved : goal.loop-run-preserved
+loop-run-preserved c = run-put _ _ _ _ _ _ _ (sym c.run-item.is) c.loop-run-test.true c.put.ensures c.loop-run.invariant

@@ -1,19 +1,16 @@
-use Rattle.std.proofs.Common.{◌∙◌, inl, inr, sym, arith, length}
-use Rattle.xe_ctx.specs.declared.overlay.Cell.{Cell}
-use Rattle.xe_ctx.proofs.Work.{patched-none, read-in, read-out}
+use Rattle.std.proofs.Common.{◌≡◌, ◌∙◌, sym, ap, length}
+use Rattle.xe_base.proofs.Ram.{length-bytes}
+use Rattle.xe_ctx.proofs.Changes.{unchanged, run-laid, run-apart}
 use Rattle.xe_ctx.proofs.overlay.load_patched.Goals as goal
-use Rattle.xe_ctx.proofs.overlay.load_patched.Goals.{then-pa-c+then-c-pa, else-pa-c, else-pa-c-via-then-pa-c+else-c-pa, else-pa-c-via-else-pa-c}
+use Rattle.xe_ctx.proofs.overlay.load_patched.Goals.{then-meets, else-meets}
 
-pub loop-c-init : goal.loop-c-init
-loop-c-init c = rw (patched-none c.args.mem.now) c.load.ensures
+pub loop-run-init : goal.loop-run-init
+loop-run-init c = rw (← unchanged c.args.mem.now) c.load.ensures
 
-pub loop-c-preserved : goal.loop-c-preserved
-loop-c-preserved c =
-    let z : Cell = record { at = 0; byte = 0 } in
-    elim c.if-pa-c.branch [
-      | then-pa-c+then-c-pa w ↦ w.out-is ∙ read-in c.args.mem.now c.args.cells.now c.loop-c.c-index c.args.pa (length c.args.out.now) z c.loop-c.out c.loop-c-test.true c.requires w.if-pa-c.true (omega (arith, w.if-c-pa.true)) c.loop-c.invariant
-      | else-pa-c w ↦ w.out-is ∙ c.loop-c.invariant ∙ sym (read-out c.args.mem.now c.args.cells.now c.loop-c.c-index c.args.pa (length c.args.out.now) z c.loop-c-test.true (elim w.else-pa-c.branch [
-        | else-pa-c-via-then-pa-c+else-c-pa u ↦ inr (omega (arith, u.if-pa-c.true, u.if-c-pa.false))
-        | else-pa-c-via-else-pa-c u ↦ inl u.if-pa-c.false
-      ]))
+pub loop-run-preserved : goal.loop-run-preserved
+loop-run-preserved c =
+    let len : length c.loop-run.out ≡ length c.args.out.now = ap length c.loop-run.invariant ∙ length-bytes _ c.args.pa (length c.args.out.now) in
+    elim c.if-meets.branch [
+      | then-meets w ↦ w.out-is ∙ run-laid c.args.mem.now c.args.runs.now c.loop-run.run-index c.run-item.result c.run-item.result (sym c.run-item.is) c.args.pa (length c.args.out.now) c.loop-run.out _ c.loop-run-test.true c.requires len w.lay_over.ensures c.loop-run.invariant
+      | else-meets w ↦ w.out-is ∙ run-apart c.args.mem.now c.args.runs.now c.loop-run.run-index c.run-item.result c.run-item.result (sym c.run-item.is) c.args.pa (length c.args.out.now) c.loop-run.out c.loop-run-test.true (rw len at (c.meets.ensures.apart w.if-meets.false)) c.loop-run.invariant
     ]

@@ -1,0 +1,5 @@
+use Rattle.xe_ctx.proofs.Work.{are-from}
+use Rattle.xe_ctx.proofs.machine.Machine.write_number.Goals as goal
+
+pub returns-clause-cells : goal.returns-clause-cells
+returns-clause-cells c = c.push_number.ensures.in_ram _ (are-from _ _ _ c.requires.ram) c.requires.cells
