@@ -18,6 +18,7 @@ use xe_icpt::Intercepts;
 use xe_opmap::{Insn, Row};
 
 /// Whether this crate has the row.
+#[inline(always)]
 pub fn is_row(row: Row) -> bool
     ensures { result ≡ is_row row }
 {
@@ -43,6 +44,7 @@ pub fn is_row(row: Row) -> bool
 }
 
 /// The work of an instruction of one of this crate's rows.
+#[inline(always)]
 fn run_row<B: Bus, I: Intercepts>(
     insn: &Insn,
     ctx: &mut Ctx<B, I>,
@@ -78,6 +80,7 @@ fn run_row<B: Bus, I: Intercepts>(
 /// step when it begins, and is worth nothing where the instruction doesn't finish. Where it finishes,
 /// it leaves a valid state.
 #[tactic(auto, using(xe_ctx::proofs::Trees::row_rules, crate::proofs::CalmRows::finish_sound))]
+#[inline]
 pub fn exec_into<B: Bus, I: Intercepts>(
     insn: &Insn,
     ctx: &mut Ctx<B, I>,

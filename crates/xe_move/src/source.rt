@@ -18,6 +18,7 @@ pub enum Source {
 
 /// Reads a source.
 #[tactic(auto, using(xe_ctx::proofs::Trees::row_rules), unfolding(crate::specs::Source::read_source))]
+#[inline(always)]
 pub fn read_source<B: Bus, I: Intercepts>(
     insn: &Insn,
     ctx: &mut Ctx<B, I>,
