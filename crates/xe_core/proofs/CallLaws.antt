@@ -1,4 +1,4 @@
-use Rattle.std.proofs.Common.{ℕ, zero, suc, ◌≡◌, ◌+◌, List, [], length, Bool, true, false, Option, Some, None, Result, Ok, Err, refl, sym, ap, ◌∙◌, if◌then◌else◌, subst, inl, inr, arith}
+use Rattle.std.proofs.Common.{ℕ, zero, suc, ◌≡◌, ◌+◌, List, [], length, Bool, true, false, Option, Some, None, Result, Ok, Err, IsSome, refl, sym, ap, ◌∙◌, if◌then◌else◌, subst, inl, inr, arith}
 use Rattle.std.proofs.lemmas.Bool.{cases_Bool}
 use Rattle.xe_base.specs.declared.access.Access.{Access}
 use Rattle.xe_base.specs.declared.access.Made.{Made}
@@ -13,7 +13,9 @@ use Rattle.xe_opmap.specs.declared.insn.Insn.{Insn}
 use Rattle.xe_opmap.specs.declared.row.Row.{Row}
 use Rattle.xe_ctx.specs.Accept.{accepted}
 use Rattle.xe_ctx.specs.Bus.{BusView}
-use Rattle.xe_core.specs.Tried.{is_plain, Tried, ReportsOnce, judged, told_by, left_by, state_by, why_by}
+use Rattle.xe_core.specs.Tried.{is_plain, Tried, ReportsOnce, Went, judged, told_by, left_by, state_by, why_by, behind_report}
+use Rattle.xe_core.specs.Turn.{leaves_more}
+use Rattle.xe_core.specs.declared.call.SoFar.{SoFar}
 use Rattle.xe_ctx.specs.Ending.{Ending, Raises, Exits, Interrupts, HandsOver, stop_of}
 use Rattle.xe_ctx.specs.Finishes.{IsSound}
 use Rattle.xe_ctx.specs.Is.{Sight, Is, Moves, Stood}
@@ -25,7 +27,7 @@ use Rattle.xe_ctx.specs.Runs.{finished}
 use Rattle.xe_ctx.specs.State.{State}
 use Rattle.xe_core.specs.Step.{Stepped, step, stepped, executed, concluded, early, outcome_of, undefined_opcode, retired, tf, is_done}
 use Rattle.xe_ctx.specs.Supply.{Supply}
-use Rattle.xe_ctx.specs.View.{accepts, opens}
+use Rattle.xe_ctx.specs.View.{accepts, opens, CanKeep}
 use Rattle.xe_ctx.specs.declared.report.Outcome.{Outcome}
 use Rattle.xe_ctx.specs.declared.report.Outcome.TheVariants.{Done, Unhandled}
 use Rattle.xe_ctx.specs.declared.report.Outcome.TheVariants as outcomes
@@ -94,6 +96,10 @@ decided-early reason More o h = (let same : outcome_of (stop_of reason) ≡ o = 
 fetched-early : (s : State) (o : Outcome) → fetched s ≡ Err o → IsEarly o
 unfolding fetched
 fetched-early s o h = decided-early _ _ o h
+
+-- a step without an instruction didn't finish
+pub fetched_undone : (s : State) (o : Outcome) → fetched s ≡ Err o → is_done o ≡ false
+fetched_undone s o h = (fetched-early s o h).undone
 
 after-undone : (o : Outcome) (s : State) (cpu : Cpu) (ram : List Area) → is_done o ≡ false → after_by o s cpu ram ≡ s
 after-undone o s cpu ram e = rw e refl
@@ -235,12 +241,66 @@ done-left Unhandled made K e = refl
 done-left (outcomes.BusFault a) made K e = cc
 done-left (outcomes.Diverged at kept wanted) made K e = cc
 
+-- one that finished, and has reached all that the record has
+pub judged-reached : (more : Bool) (retire n : ℕ) (u : Option Access) → u ≡ None → Done more retire ≡ judged (Done more retire) n u
+judged-reached more retire n u e = rw e refl
+
+-- one that finished too early
+pub judged-early : (more : Bool) (retire n : ℕ) (u : Option Access) → IsSome u → is_done (judged (Done more retire) n u) ≡ false
+judged-early more retire n None h = cc
+judged-early more retire n (Some x) h = refl
+
+-- one that didn't finish
+pub judged-undone : (o : Outcome) (n : ℕ) (u : Option Access) → is_done o ≡ false → is_done (judged o n u) ≡ false
+judged-undone o n None e = e
+judged-undone (Done more retire) n (Some x) e = cc
+judged-undone (outcomes.Pending a) n (Some x) e = refl
+judged-undone (outcomes.Fault f) n (Some x) e = refl
+judged-undone (outcomes.Intercept f) n (Some x) e = refl
+judged-undone (outcomes.Event kind vector next) n (Some x) e = refl
+judged-undone (outcomes.Handoff h) n (Some x) e = refl
+judged-undone Unhandled n (Some x) e = refl
+judged-undone (outcomes.BusFault a) n (Some x) e = refl
+judged-undone (outcomes.Diverged at kept wanted) n (Some x) e = refl
+
+-- what a stop owes to the record
+pub can_keep : (e : Stop) (made : List Made) → Keepable (outcome_of e) made → CanKeep e made
+can_keep (stops.Pending a) made k = k
+can_keep (stops.BusFault a) made k = k
+can_keep (stops.Diverged d) made k = tt
+can_keep (stops.Fault x) made k = tt
+can_keep (stops.Intercept x) made k = tt
+can_keep (stops.Event x) made k = tt
+can_keep (stops.Handoff x) made k = tt
+
+pub stopped_keeps : (e : Stop) (old new : Sight) → Stood (why_by (outcome_of e)) old new → CanKeep e new.step.made
+stopped_keeps e old new s = can_keep e _ (stood-keeps (outcome_of e) old new s)
+
+undone-last : (o : Outcome) (made : List Made) → is_done o ≡ false → leaves_more o made ≡ false
+undone-last (Done more retire) made e = cc
+undone-last (outcomes.Pending a) made e = refl
+undone-last (outcomes.Fault f) made e = refl
+undone-last (outcomes.Intercept f) made e = refl
+undone-last (outcomes.Event kind vector next) made e = refl
+undone-last (outcomes.Handoff h) made e = refl
+undone-last Unhandled made e = refl
+undone-last (outcomes.BusFault a) made e = refl
+undone-last (outcomes.Diverged at kept wanted) made e = refl
+
+-- behind it no other step follows
+pub went_no_further : (so_far : SoFar) (may : Bool) (row : Option Row) (o : Outcome) (made : List Made) (told : Report) → is_done o ≡ false → told ≡ behind_report so_far (told_by row o made) → Went so_far may (told_by row o made) None told
+went_no_further so_far may row o made told undone e = (e, λ _. undone-last o _ undone)
+
 -- nothing is left of a record that keeps nothing
 pub nothing_unused : (n : ℕ) → expected nothing n ≡ None
 nothing_unused zero = refl
 nothing_unused (suc n) = refl
 
 -- ---- one step
+
+-- it begins from the state of the machine
+pub starts_so : (s at : State) (hits : Point → Option Exit) (K : Kept) (b : BusView) (begun : Sight) → begun ≡ opens s hits K b → at ≡ s → begun.step ≡ begins at begun.step.hits
+starts_so s at hits K b begun e same = rw (e, same) refl
 
 module _ (s at : State) (hits : Point → Option Exit) (K : Kept) (b : BusView) (begun new : Sight) (row : Option Row) (o told : Outcome) (draft : Cpu) (ram : List Area) (ok : IsKept K.answers K.asked) (starts : begun ≡ opens s hits K b) (same : at ≡ s) (tried : Tried (step_of at begun.step.hits) begun row o (after_by o at draft ram) new) (judge : told ≡ judged o (length new.step.made) (expected new.kept (length new.step.made))) where
   -- a call that finishes has reached all of its record, and finishes as its step

@@ -46,6 +46,12 @@ is_plain (outcomes.BusFault a) = false
 is_plain (outcomes.Diverged at kept wanted) = false
 is_plain _ = true
 
+-- a device wasn't ready, or failed
+abbrev pub is_waiting : Stop → Bool
+is_waiting (stops.Pending a) = true
+is_waiting (stops.BusFault a) = true
+is_waiting _ = false
+
 -- why the code stopped, where that isn't an end of the definition
 abbrev pub why_by : Outcome → Option Stop
 why_by (outcomes.Pending a) = Some (stops.Pending a)

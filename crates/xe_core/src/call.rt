@@ -6,16 +6,17 @@ ghost use Rattle.xe_base.specs.declared.access.Made.{Made};
 ghost use Rattle.xe_base.specs.State.{Valid};
 ghost use Rattle.xe_ctx.specs.Bus.{HasRoom};
 ghost use Rattle.xe_core.specs.Call.{Reports, FollowsTape, Tells, Counted, StandsEach, Stands, Led, Played, Steady, Completes, CompletesOver, before_last, divergence, Fits};
-ghost use Rattle.xe_core.specs.Tried.{Tried, Went, Did, judged, told_by, left_by, is_plain};
+ghost use Rattle.xe_core.specs.Tried.{Tried, Went, Did, judged, told_by, left_by, is_plain, is_waiting, behind_report};
 ghost use Rattle.xe_core.specs.Turn.{after_steps, leaves_more};
 ghost use Rattle.xe_ctx.specs.Kept.{nothing};
 ghost use Rattle.xe_ctx.specs.Recorded.{kept_of};
 ghost use Rattle.xe_ctx.specs.Machine.{state_of};
 ghost use Rattle.xe_ctx.specs.Part.{begins};
-ghost use Rattle.xe_core.specs.Step.{tf, is_done, is_diverged};
+ghost use Rattle.xe_core.specs.Step.{tf, is_done, is_diverged, outcome_of};
+ghost use Rattle.xe_ctx.specs.declared.report.Outcome.TheVariants.{Done};
 ghost use Rattle.xe_ctx.specs.Supply.{answers, answers_alone};
 ghost use Rattle.xe_ctx.specs.Tape.{Tape, Key};
-ghost use Rattle.xe_ctx.specs.View.{view, cpu_of, state_in, kept_in, made_in, work_of, code_of, SameHandles, IsOpen, accesses_left, bytes_left, unused, kept_after, CanKeep};
+ghost use Rattle.xe_ctx.specs.View.{view, cpu_of, state_in, kept_in, made_in, work_of, code_of, machine_back, bus_ref, bus_back, record_back, SameHandles, IsOpen, accesses_left, bytes_left, unused, kept_after, CanKeep};
 ghost use Rattle.xe_core.specs.Emulate.{step_of, steps_of, after_by, Keepable};
 
 use crate::fetch::{instruction, outcome_of};
@@ -58,24 +59,6 @@ fn is_plain(outcome: &Outcome) -> bool
     }
 }
 
-/// Whether the step finished.
-#[inline]
-fn is_done(outcome: &Outcome) -> bool
-    ensures { result ≡ is_done outcome.now }
-{
-    match outcome {
-        Outcome::Done { .. } => true,
-        Outcome::Pending(_)
-        | Outcome::Fault(_)
-        | Outcome::Intercept(_)
-        | Outcome::Event { .. }
-        | Outcome::Handoff(_)
-        | Outcome::Unhandled
-        | Outcome::BusFault(_)
-        | Outcome::Diverged { .. } => false,
-    }
-}
-
 /// What a turn has come to so far: how many of its steps finished, and the row of the last of these.
 #[derive(Clone, Copy)]
 pub(crate) struct SoFar {
@@ -83,68 +66,30 @@ pub(crate) struct SoFar {
     pub(crate) finished: Option<Row>,
 }
 
-/// Whether another step may follow one that ended so, with these accesses: it leaves elements to be
-/// done, and made no access.
-#[inline]
-fn leaves_more(outcome: &Outcome, made: &[Made]) -> bool
-    ensures { result ≡ leaves_more outcome.now made.now }
+/// Whether a step has reached all that the record has. Only the first step of a turn can have a record.
+#[inline(always)]
+#[tactic(auto, using(crate::proofs::CallLaws::nothing_unused))]
+fn has_reached_all<B: Bus, I: Intercepts>(ctx: &Ctx<B, I>, is_first: bool) -> bool
+    requires open { IsOpen B.sight ctx.now }
+    requires later { is_first ≡ false → kept_in ctx.now ≡ nothing }
+    ensures reached { result ≡ true → unused (kept_in ctx.now) (made_in ctx.now) ≡ None }
+    ensures rest { result ≡ false → IsSome (unused (kept_in ctx.now) (made_in ctx.now)) }
 {
-    match outcome {
-        Outcome::Done { more, .. } => *more && made.is_empty(),
-        Outcome::Pending(_)
-        | Outcome::Fault(_)
-        | Outcome::Intercept(_)
-        | Outcome::Event { .. }
-        | Outcome::Handoff(_)
-        | Outcome::Unhandled
-        | Outcome::BusFault(_)
-        | Outcome::Diverged { .. } => false,
+    if !is_first {
+        return true;
     }
-}
-
-/// Tries one step: its instruction, and how it ended. Where it finished, the draft has the registers.
-#[inline]
-fn attempt<B: Bus, I: Intercepts>(ctx: &mut Ctx<B, I>, cpu: &mut Cpu) -> (Option<Row>, Outcome)
-    requires open { IsOpen B.sight ctx.old }
-    requires none { code_of ctx.old ≡ [] }
-    requires starts { (view B.sight I.hits ctx.old).step ≡ begins (state_in ctx.old) (view B.sight I.hits ctx.old).step.hits }
-    requires draft { cpu.old ≡ cpu_of ctx.old }
-    requires valid { Valid cpu.old }
-    requires accesses { accesses_left ctx.old ≡ 256 }
-    requires bytes { bytes_left ctx.old ≡ 1024 }
-    ensures tried { Tried (step_of (state_in ctx.old) (view B.sight I.hits ctx.old).step.hits) (view B.sight I.hits ctx.old) result.0 result.1 (after_by result.1 (state_in ctx.old) cpu.new (work_of ctx.new)) (view B.sight I.hits ctx.new) }
-    ensures same { SameHandles ctx.old ctx.new }
-    ensures open { IsOpen B.sight ctx.new }
-    ensures valid { is_done result.1 ≡ true → Valid cpu.new }
-{
-    let is_trapped = is_trapped(cpu);
-    let insn = match instruction(ctx) {
-        Ok(insn) => insn,
-        Err(outcome) => return (None, outcome),
-    };
-    ctx.accept(insn.len);
-    let row = Some(insn.row);
-    match exec(&insn, ctx, cpu) {
-        Ok(End { more, retire }) => {
-            let retire = retired(retire, is_trapped);
-            (row, Outcome::Done { more, retire })
-        }
-        Err(stop) => (row, outcome_of(stop)),
+    match ctx.unused() {
+        Some(_) => false,
+        None => true,
     }
 }
 
 /// How a step ends: as it did; or, where it came to an end of its own and hasn't reached all that the
-/// record has, with that. Only the first step of a turn can have a record.
-#[inline]
-#[tactic(auto, using(crate::proofs::CallLaws::nothing_unused))]
-fn judged<B: Bus, I: Intercepts>(ctx: &Ctx<B, I>, is_first: bool, outcome: Outcome) -> Outcome
+/// record has, with that.
+fn judged<B: Bus, I: Intercepts>(ctx: &Ctx<B, I>, outcome: Outcome) -> Outcome
     requires open { IsOpen B.sight ctx.now }
-    requires later { is_first ≡ false → kept_in ctx.now ≡ nothing }
     ensures { result ≡ judged outcome (length (made_in ctx.now)) (unused (kept_in ctx.now) (made_in ctx.now)) }
 {
-    if !is_first {
-        return outcome;
-    }
     match ctx.unused() {
         Some((at, kept)) if is_plain(&outcome) => Outcome::Diverged {
             at,
@@ -155,35 +100,100 @@ fn judged<B: Bus, I: Intercepts>(ctx: &Ctx<B, I>, is_first: bool, outcome: Outco
     }
 }
 
-/// What the turn has come to, where it may go on behind this step and does. Else the report tells of
-/// the turn, with the accesses of this step, kept ones included; with none where the record belongs
-/// to another step.
-#[inline]
-fn tell<B: Bus, I: Intercepts>(
-    ctx: &Ctx<B, I>,
-    row: Option<Row>,
-    outcome: Outcome,
+/// Whether another step may follow one that finished, with these accesses: it leaves elements to be
+/// done, and made no access.
+#[inline(always)]
+fn leaves_more(more: bool, made: &[Made]) -> bool
+    ensures { result ≡ leaves_more (Done more 0) made.now }
+{
+    more && made.is_empty()
+}
+
+/// The report tells of a turn that a finished step ends, with the accesses of this step, kept ones
+/// included. Where there are none, and none were told before, there is no list to be written.
+#[inline(always)]
+fn tell_finished(
+    report: &mut Report,
+    row: Row,
+    elements: u32,
+    made: &[Made],
+    more: bool,
+    retire: u8,
+)
+    requires { length made.now ≤ 256 }
+    ensures { report.new ≡ record { row = Some row; finished = Some row; elements = elements; accesses = record { items = made.now }; outcome = Done more retire } }
+{
+    if made.is_empty() && report.accesses.is_empty() {
+        report.row = Some(row);
+        report.finished = Some(row);
+        report.elements = elements;
+        report.outcome = Outcome::Done { more, retire };
+        return;
+    }
+    tell_accesses(report, row, elements, made, more, retire)
+}
+
+/// The same where there are accesses to be told, or were.
+#[inline(never)]
+fn tell_accesses(
+    report: &mut Report,
+    row: Row,
+    elements: u32,
+    made: &[Made],
+    more: bool,
+    retire: u8,
+)
+    requires { length made.now ≤ 256 }
+    ensures { report.new ≡ record { row = Some row; finished = Some row; elements = elements; accesses = record { items = made.now }; outcome = Done more retire } }
+{
+    report.tell(
+        Some(row),
+        Some(row),
+        elements,
+        made,
+        Outcome::Done { more, retire },
+    )
+}
+
+/// What the turn has come to, where it may go on behind this step, which finished, and does. Else the
+/// report tells of the turn.
+#[inline(always)]
+fn go_on(
+    made: &[Made],
+    row: Row,
+    more: bool,
+    retire: u8,
     so_far: SoFar,
     may_go_on: bool,
     report: &mut Report,
 ) -> Option<SoFar>
-    requires open { IsOpen B.sight ctx.now }
     requires few { so_far.elements < 2 ^ 32 - 1 }
-    ensures { Went so_far may_go_on (told_by row outcome (made_in ctx.now)) result report.new }
+    requires fits { length made.now ≤ 256 }
+    ensures { Went so_far may_go_on (told_by (Some row) (Done more retire) made.now) result report.new }
 {
-    if may_go_on && leaves_more(&outcome, ctx.made()) {
+    let elements = so_far.elements + 1;
+    if may_go_on && leaves_more(more, made) {
         return Some(SoFar {
-            elements: so_far.elements + 1,
-            finished: row,
+            elements,
+            finished: Some(row),
         });
     }
+    tell_finished(report, row, elements, made, more, retire);
+    None
+}
+
+/// The report tells of a turn whose last step didn't finish, with the accesses of this step, kept
+/// ones included; with none where the record belongs to another step.
+fn tell_ended(made: &[Made], row: Option<Row>, outcome: Outcome, so_far: SoFar, report: &mut Report)
+    requires undone { is_done outcome ≡ false }
+    requires fits { length made.now ≤ 256 }
+    ensures { report.new ≡ behind_report so_far (told_by row outcome made.now) }
+{
     let SoFar { elements, finished } = so_far;
     match outcome {
-        Outcome::Done { .. } => report.tell(row, row, elements + 1, ctx.made(), outcome),
         Outcome::Diverged { .. } => report.tell(row, finished, elements, &[], outcome),
-        _ => report.tell(row, finished, elements, ctx.made(), outcome),
+        _ => report.tell(row, finished, elements, made, outcome),
     }
-    None
 }
 
 /// The stop by which a step is given up. One that the table doesn't have leaves nothing in the record,
@@ -203,6 +213,114 @@ fn stop_by(outcome: &Outcome) -> Stop
         | Outcome::Event { .. }
         | Outcome::Handoff(_)
         | Outcome::Unhandled => Stop::Fault(Fault::plain(INVALID_OPCODE)),
+    }
+}
+
+/// Gives up a step that came to this end; and the report tells of the turn. What a step that finishes
+/// needs nothing of stands in functions that aren't inlined, as this one does.
+#[inline(never)]
+fn give_up<B: Bus, I: Intercepts>(
+    ctx: Ctx<B, I>,
+    row: Option<Row>,
+    outcome: &Outcome,
+    so_far: SoFar,
+    report: &mut Report,
+)
+    requires open { IsOpen B.sight ctx }
+    requires keeps { Keepable (judged outcome.now (length (made_in ctx)) (unused (kept_in ctx) (made_in ctx))) (made_in ctx) }
+    requires undone { is_done (judged outcome.now (length (made_in ctx)) (unused (kept_in ctx) (made_in ctx))) ≡ false }
+    ensures told { report.new ≡ behind_report so_far (told_by row (judged outcome.now (length (made_in ctx.entry)) (unused (kept_in ctx.entry) (made_in ctx.entry))) (made_in ctx.entry)) }
+    ensures bus { (bus_back ctx.exit).now ≡ (bus_ref ctx.entry).now }
+    ensures machine { state_of (machine_back ctx.exit).now ≡ state_in ctx.entry }
+    ensures record { kept_of (record_back ctx.exit).now ≡ left_by (judged outcome.now (length (made_in ctx.entry)) (unused (kept_in ctx.entry) (made_in ctx.entry))) (made_in ctx.entry) (kept_in ctx.entry) }
+{
+    let outcome = judged(&ctx, *outcome);
+    tell_ended(ctx.made(), row, outcome, so_far, report);
+    let stop = stop_by(&outcome);
+    ctx.end(&stop);
+}
+
+/// The same of a step that finished before it had reached all that the record has.
+#[inline(never)]
+fn give_up_early<B: Bus, I: Intercepts>(
+    ctx: Ctx<B, I>,
+    row: Row,
+    more: bool,
+    retire: u8,
+    so_far: SoFar,
+    report: &mut Report,
+)
+    requires open { IsOpen B.sight ctx }
+    requires keeps { Keepable (judged (Done more retire) (length (made_in ctx)) (unused (kept_in ctx) (made_in ctx))) (made_in ctx) }
+    requires undone { is_done (judged (Done more retire) (length (made_in ctx)) (unused (kept_in ctx) (made_in ctx))) ≡ false }
+    ensures told { report.new ≡ behind_report so_far (told_by (Some row) (judged (Done more retire) (length (made_in ctx.entry)) (unused (kept_in ctx.entry) (made_in ctx.entry))) (made_in ctx.entry)) }
+    ensures bus { (bus_back ctx.exit).now ≡ (bus_ref ctx.entry).now }
+    ensures machine { state_of (machine_back ctx.exit).now ≡ state_in ctx.entry }
+    ensures record { kept_of (record_back ctx.exit).now ≡ left_by (judged (Done more retire) (length (made_in ctx.entry)) (unused (kept_in ctx.entry) (made_in ctx.entry))) (made_in ctx.entry) (kept_in ctx.entry) }
+{
+    let outcome = Outcome::Done { more, retire };
+    give_up(ctx, Some(row), &outcome, so_far, report);
+}
+
+/// Whether a step stands at a device that wasn't ready, or failed.
+#[inline(always)]
+fn is_waiting(stop: &Stop) -> bool
+    ensures { result ≡ is_waiting stop.now }
+{
+    match stop {
+        Stop::Pending(_) | Stop::BusFault(_) => true,
+        Stop::Diverged(_)
+        | Stop::Fault(_)
+        | Stop::Intercept(_)
+        | Stop::Event(_)
+        | Stop::Handoff(_) => false,
+    }
+}
+
+/// Suspends a step at a device: the record keeps what it made; and the report tells of the turn.
+#[inline(always)]
+fn suspend<B: Bus, I: Intercepts>(
+    ctx: Ctx<B, I>,
+    row: Row,
+    stop: &Stop,
+    so_far: SoFar,
+    report: &mut Report,
+)
+    requires open { IsOpen B.sight ctx }
+    requires keeps { CanKeep stop.now (made_in ctx) }
+    ensures told { report.new ≡ record { row = Some row; finished = so_far.finished; elements = so_far.elements; accesses = record { items = made_in ctx.entry }; outcome = outcome_of stop.now } }
+    ensures bus { (bus_back ctx.exit).now ≡ (bus_ref ctx.entry).now }
+    ensures machine { state_of (machine_back ctx.exit).now ≡ state_in ctx.entry }
+    ensures record { kept_of (record_back ctx.exit).now ≡ kept_after stop.now (made_in ctx.entry) (kept_in ctx.entry) }
+{
+    let SoFar { elements, finished } = so_far;
+    report.tell(Some(row), finished, elements, ctx.made(), outcome_of(*stop));
+    ctx.end(stop);
+}
+
+/// Gives up a step that stopped; and the report tells of the turn.
+#[inline(never)]
+fn halt<B: Bus, I: Intercepts>(
+    ctx: Ctx<B, I>,
+    row: Row,
+    stop: &Stop,
+    so_far: SoFar,
+    report: &mut Report,
+)
+    requires open { IsOpen B.sight ctx }
+    requires keeps { Keepable (judged (outcome_of stop.now) (length (made_in ctx)) (unused (kept_in ctx) (made_in ctx))) (made_in ctx) }
+    requires undone { is_done (judged (outcome_of stop.now) (length (made_in ctx)) (unused (kept_in ctx) (made_in ctx))) ≡ false }
+    requires stood { CanKeep stop.now (made_in ctx) }
+    ensures told { report.new ≡ behind_report so_far (told_by (Some row) (judged (outcome_of stop.now) (length (made_in ctx.entry)) (unused (kept_in ctx.entry) (made_in ctx.entry))) (made_in ctx.entry)) }
+    ensures bus { (bus_back ctx.exit).now ≡ (bus_ref ctx.entry).now }
+    ensures machine { state_of (machine_back ctx.exit).now ≡ state_in ctx.entry }
+    ensures record { kept_of (record_back ctx.exit).now ≡ left_by (judged (outcome_of stop.now) (length (made_in ctx.entry)) (unused (kept_in ctx.entry) (made_in ctx.entry))) (made_in ctx.entry) (kept_in ctx.entry) }
+{
+    if is_waiting(stop) {
+        suspend(ctx, row, stop, so_far, report);
+    } else {
+        let outcome = outcome_of(*stop);
+        give_up(ctx, Some(row), &outcome, so_far, report);
     }
 }
 
@@ -226,17 +344,34 @@ fn step<B: Bus, I: Intercepts>(
     ensures did { Did (step_of (state_of m.old) (I.hits icpt.now)) (state_of m.old) (kept_of rec.old) (B.sight bus.old) so_far may_go_on result report.new (state_of m.new) (kept_of rec.new) (B.sight bus.new) }
     ensures draft { IsSome result → cpu.new ≡ (state_of m.new).cpu }
 {
+    let is_trapped = is_trapped(cpu);
     let mut ctx = Ctx::begin(m, icpt, bus, rec);
-    let (row, outcome) = attempt(&mut ctx, cpu);
-    let outcome = judged(&ctx, so_far.elements == 0, outcome);
-    let next = tell(&ctx, row, outcome, so_far, may_go_on, report);
-    if is_done(&outcome) {
-        ctx.commit(*cpu);
-    } else {
-        let stop = stop_by(&outcome);
-        ctx.end(&stop);
+    let insn = match instruction(&mut ctx) {
+        Ok(insn) => insn,
+        Err(outcome) => {
+            give_up(ctx, None, &outcome, so_far, report);
+            return None;
+        }
+    };
+    ctx.accept(insn.len);
+    let row = insn.row;
+    match exec(&insn, &mut ctx, cpu) {
+        Ok(End { more, retire }) => {
+            let retire = retired(retire, is_trapped);
+            if has_reached_all(&ctx, so_far.elements == 0) {
+                let made = ctx.made();
+                let next = go_on(made, row, more, retire, so_far, may_go_on, report);
+                ctx.commit(*cpu);
+                return next;
+            }
+            give_up_early(ctx, row, more, retire, so_far, report);
+            None
+        }
+        Err(stop) => {
+            halt(ctx, row, &stop, so_far, report);
+            None
+        }
     }
-    next
 }
 
 /// One call, with all that it says in one record. The draft and the report are those of the whole

@@ -9,7 +9,7 @@ ghost use Rattle.xe_core.specs.Emulate.{fetched};
 use xe_base::{Fault, INVALID_OPCODE};
 use xe_ctx::{Bus, Ctx, Diverged, Event, Outcome, Stop};
 use xe_icpt::Intercepts;
-use xe_opmap::{Decoded, Insn, decode};
+use xe_opmap::{Decoded, Insn};
 
 /// How a step that stopped ended, as a report tells it.
 pub(crate) fn outcome_of(stop: Stop) -> Outcome
@@ -44,11 +44,10 @@ pub(crate) fn instruction<B: Bus, I: Intercepts>(ctx: &mut Ctx<B, I>) -> Result<
     ensures accesses { accesses_left ctx.new ≡ accesses_left ctx.old }
     ensures bytes { bytes_left ctx.new ≡ bytes_left ctx.old }
 {
-    let reason = ctx.read_code();
-    match decode(ctx.cpu().code_size(), ctx.code()) {
+    match ctx.decode() {
         Decoded::Insn(insn) => Ok(insn),
         Decoded::Invalid(_) => Err(Outcome::Fault(Fault::plain(INVALID_OPCODE))),
         Decoded::Outside => Err(Outcome::Unhandled),
-        Decoded::More => Err(outcome_of(reason)),
+        Decoded::More => Err(outcome_of(ctx.missing())),
     }
 }
