@@ -24,6 +24,7 @@ impl Handle {
     ghost use Rattle.x86emu_c.specs.Emulated.{machine_in, seen};
 
     /// No machine.
+    #[inline(always)]
     pub fn none() -> Handle
         ensures { machine_in result ≡ None }
     {
@@ -34,6 +35,7 @@ impl Handle {
     }
 
     /// The machine of a box.
+    #[inline(always)]
     pub fn of(b: Box<Emulator>) -> Handle
         ensures { machine_in result ≡ Some (seen b.value) }
     {
@@ -44,6 +46,7 @@ impl Handle {
     }
 
     /// Whether there is a machine.
+    #[inline(always)]
     pub fn is_live(&self) -> bool
         ensures { result ≡ self.now.live }
     {
@@ -51,6 +54,7 @@ impl Handle {
     }
 
     /// Takes the machine out, and leaves none.
+    #[inline(always)]
     pub fn take(&mut self, alloc: Global) -> Option<Box<Emulator>>
         ensures taken { MatchOption result (machine_in self.old ≡ None) (λ b. machine_in self.old ≡ Some (seen b.value)) }
         ensures left { machine_in self.new ≡ None }

@@ -33,6 +33,7 @@ impl Model for Held {
 
 impl Held {
     /// No box.
+    #[inline(always)]
     pub fn none() -> Held
         ensures { result.values ≡ [] }
     {
@@ -42,6 +43,7 @@ impl Held {
     }
 
     /// A box.
+    #[inline(always)]
     pub(crate) fn of(loose: Loose<Emulator>) -> Held
         ensures { result.values ≡ loose.value ∷ [] }
     {
@@ -52,6 +54,7 @@ impl Held {
     }
 
     /// The box again.
+    #[inline(always)]
     pub(crate) fn into_loose(self) -> Loose<Emulator>
         requires { IsOne self.values }
         ensures { self.values ≡ result.value ∷ [] }

@@ -19,6 +19,7 @@ impl<T> Model for Loose<T> {
 
 impl<T: Drop> Loose<T> {
     /// Takes a box apart.
+    #[inline(always)]
     pub(crate) fn of(value: Box<T>) -> Loose<T>
         ensures { result.value ≡ value.value }
     {
@@ -27,6 +28,7 @@ impl<T: Drop> Loose<T> {
     }
 
     /// Makes the box again.
+    #[inline(always)]
     pub(crate) fn into_box(self, alloc: Global) -> Box<T>
         ensures { result.value ≡ self.value }
     {

@@ -41,11 +41,15 @@ impl Mailbox {
         self.post = Some(Made { access, answer });
     }
 
-    /// Forgets the answer.
+    /// Forgets the answer, where there is one: most steps ask no device, and to look costs less than to
+    /// write the whole of it.
+    #[inline(always)]
     pub(crate) fn clear(&mut self)
         ensures { self.new.post ≡ None }
     {
-        self.post = None;
+        if self.post.is_some() {
+            self.post = None;
+        }
     }
 
     /// Gives the answer to the access that it is for, once; and is not ready for every other.

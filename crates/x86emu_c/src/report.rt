@@ -117,8 +117,9 @@ impl X86emuReport {
         }
     }
 
-    /// An exception.
-    fn of_fault(&mut self, fault: Fault)
+    /// Tells an exception.
+    #[inline(always)]
+    fn tell_fault(&mut self, fault: Fault)
         ensures { ToldEnd (Outcome.Fault fault) self.new }
     {
         self.end = FAULT;
@@ -139,8 +140,9 @@ impl X86emuReport {
         }
     }
 
-    /// An exit.
-    fn of_exit(&mut self, exit: Exit)
+    /// Tells an exit.
+    #[inline(always)]
+    fn tell_exit(&mut self, exit: Exit)
         ensures { ToldEnd (Outcome.Intercept exit) self.new }
     {
         self.end = EXIT;
@@ -149,8 +151,11 @@ impl X86emuReport {
         self.info2 = exit.info2;
     }
 
-    /// A record of another step.
-    fn of_divergence(&mut self, at: u16, kept: Access, wanted: Option<Access>)
+    /// Tells that the record belongs to another step. It comes seldom, and in line it would take
+    /// registers that each run had to save.
+    #[cold]
+    #[inline(never)]
+    fn tell_divergence(&mut self, at: u16, kept: Access, wanted: Option<Access>)
         ensures { ToldEnd (Outcome.Diverged at kept wanted) self.new }
     {
         self.end = DIVERGED;
@@ -165,11 +170,12 @@ impl X86emuReport {
         }
     }
 
-    /// How a run ended.
-    fn of_end(&mut self, outcome: Outcome)
-        ensures { ToldEnd outcome self.new }
+    /// Tells how a run ended.
+    #[inline(always)]
+    fn tell_end(&mut self, outcome: &Outcome)
+        ensures { ToldEnd outcome.now self.new }
     {
-        match outcome {
+        match *outcome {
             Outcome::Done { more, retire } => {
                 self.end = DONE;
                 self.more = more;
@@ -179,8 +185,8 @@ impl X86emuReport {
                 self.end = PENDING;
                 self.access = X86emuAccess::of(a);
             }
-            Outcome::Fault(fault) => self.of_fault(fault),
-            Outcome::Intercept(exit) => self.of_exit(exit),
+            Outcome::Fault(fault) => self.tell_fault(fault),
+            Outcome::Intercept(exit) => self.tell_exit(exit),
             Outcome::Event { kind, vector, next } => {
                 self.end = EVENT;
                 self.kind = event_number(kind);
@@ -197,18 +203,18 @@ impl X86emuReport {
                 self.end = BUS_FAULT;
                 self.access = X86emuAccess::of(a);
             }
-            Outcome::Diverged { at, kept, wanted } => self.of_divergence(at, kept, wanted),
+            Outcome::Diverged { at, kept, wanted } => self.tell_divergence(at, kept, wanted),
         }
     }
 
-    /// The report of a run.
-    pub(crate) fn of(report: &Report) -> X86emuReport
-        ensures { Told report.now result }
+    /// Tells a run. What its end doesn't have stays as it was, since to clear it at each run would
+    /// cost more than to tell the end.
+    #[inline(always)]
+    pub(crate) fn tell(&mut self, report: &Report)
+        ensures { Told report.now self.new }
     {
-        let mut told = X86emuReport::none();
-        told.of_end(report.outcome);
-        told.elements = report.elements;
-        told.accesses = report.accesses.len() as u32;
-        told
+        self.tell_end(&report.outcome);
+        self.elements = report.elements;
+        self.accesses = report.accesses.len() as u32;
     }
 }

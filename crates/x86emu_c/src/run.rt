@@ -80,7 +80,7 @@ pub extern "C" fn x86emu_run(
         return BAD_BATCH;
     }
     b.run(batch);
-    *report = X86emuReport::of(&b.report);
+    report.tell(&b.report);
     *m = Handle::of(b);
     OK
 }
