@@ -177,6 +177,35 @@ gap-above (r ∷ rs) low a h l =
     let u = f.after in
     gap-cons r rs a (covers-short r a (omega arith)) ∙ gap-above rs (r.start + r.len) a p.1 (omega arith)
 
+-- a gap isn't in front of where its search begins
+pub gap-reached : (rs : List Region) (a : ℕ) → a ≤ gap_behind rs a
+unfolding gap_behind
+gap-reached [] a = omega arith
+gap-reached (r ∷ rs) a = elim (cases_Bool (covers r a)) [
+  | inl t ↦ let c = covers-at r a t in let e = gap-reached rs (r.start + r.len) in rw t (omega (arith, c.1, e))
+  | inr n ↦ rw n (gap-reached rs a)
+]
+
+pub follow-none : (rs : List Region) (low i : ℕ) → length rs ≤ i → follow low (drop i rs) ≡ true
+unfolding follow
+follow-none rs low i h = rw (drop_all i rs h) refl
+
+-- a region that has the address is the one that a search finds
+pub found-covered : (rs : List Region) (a i : ℕ) (d : Region) → follow 0 rs ≡ true → i < length rs → covers (get_or rs i d) a ≡ true → IsFound rs a i
+found-covered rs a i d h l t =
+    let c = covers-at (get_or rs i d) a t in
+    let b = ends-below rs 0 i d h l in
+    record {
+      within = omega arith;
+      front = omega (arith, b, c.0);
+      behind = elim (cases_lt (i + 1) (length rs)) [
+        | inl m ↦
+            let n = next-begins rs 0 i d h l m in
+            begins-above rs 0 (i + 1) (i + 1) a d h m (omega arith) (omega (arith, n, c.1))
+        | inr m ↦ follow-none rs (a + 1) (i + 1) (omega arith)
+      ];
+    }
+
 -- what a search found says where the address lies
 module _ (rs : List Region) (a i : ℕ) (d : Region) (h : follow 0 rs ≡ true) (f : IsFound rs a i) where
   pub found-place : i < length rs → covers (get_or rs i d) a ≡ true → place rs a ≡ total (take i rs) + (a - (get_or rs i d).start)
@@ -217,17 +246,14 @@ module _ (rs : List Region) (a i : ℕ) (d : Region) (h : follow 0 rs ≡ true) 
       let o = next-begins rs 0 i d h l m in
       gap-split rs 0 i a h f.front ∙ gap-moved rs i d l a t ∙ gap-above (drop (i + 1) rs) (end + 1) end (begins-above rs 0 (i + 1) (i + 1) end d h m (omega arith) (omega (arith, o, ne))) (omega arith)
 
+  -- the gap isn't in front of the end of the region that has the address
+  pub end-gap : i < length rs → covers (get_or rs i d) a ≡ true → (get_or rs i d).start + (get_or rs i d).len ≤ gap_behind rs a
+  end-gap l t =
+      let e = gap-split rs 0 i a h f.front ∙ gap-moved rs i d l a t in
+      rw e (gap-reached (drop (i + 1) rs) ((get_or rs i d).start + (get_or rs i d).len))
+
   pub found-gap : gap_behind rs a ≡ gap_behind (drop i rs) a
   found-gap = gap-split rs 0 i a h f.front
-
--- a gap isn't in front of where its search begins
-pub gap-reached : (rs : List Region) (a : ℕ) → a ≤ gap_behind rs a
-unfolding gap_behind
-gap-reached [] a = omega arith
-gap-reached (r ∷ rs) a = elim (cases_Bool (covers r a)) [
-  | inl t ↦ let c = covers-at r a t in let e = gap-reached rs (r.start + r.len) in rw t (omega (arith, c.1, e))
-  | inr n ↦ rw n (gap-reached rs a)
-]
 
 -- bytes that go past the first gap aren't all RAM
 pub gap-inside : (ram : List Area) (pa gap n : ℕ) → IsGap ram pa gap → gap < pa + n → AreRam ram pa n → ⊥
@@ -236,10 +262,6 @@ gap-inside ram pa gap n g l are =
     let e : pa + (gap - pa) ≡ gap = omega arith in
     let i : in_ram ram gap ≡ true = rw e at (are.each (gap - pa) (omega arith)) in
     both_ways (in_ram ram gap) g.outside i
-
-pub follow-none : (rs : List Region) (low i : ℕ) → length rs ≤ i → follow low (drop i rs) ≡ true
-unfolding follow
-follow-none rs low i h = rw (drop_all i rs h) refl
 
 pub end-none : (low : ℕ) → end_behind low [] ≡ low
 unfolding end_behind
@@ -256,7 +278,3 @@ module _ (rs xs : List Region) (bs : List ℕ) (ram : List Area) (whole : IsWhol
 
   pub range-past : gap_behind xs pa < pa + n → AreRam ram pa n → ⊥
   range-past l = gap-inside ram pa (gap_behind rs pa) n (gap-view rs bs ram whole view pa) (rw same at l)
-
--- a lone region is the one that a search finds
-pub found-lone : (rs : List Region) (a : ℕ) → length rs ≡ 1 → IsFound rs a 0
-found-lone rs a h = record { within = omega arith; front = omega (arith, end-none 0); behind = follow-none rs (a + 1) 1 (omega arith) }

@@ -7,7 +7,8 @@ ghost use Rattle.xe_mem.specs.Moves.{IsUnit, filled, copied_up, copied_down};
 
 use crate::moves::{move_down, move_up, repeat};
 use crate::region::{
-    MAX_BYTES, MAX_REGIONS, MemFault, Region, copy_of, first_bad, sums_before, total_len,
+    MAX_BYTES, MAX_REGIONS, MemFault, Region, copy_of, first_bad, guesses_of, sums_before,
+    total_len,
 };
 use crate::search::{gap_from, position, range_of};
 use arrayvec::ArrayVec;
@@ -20,6 +21,8 @@ pub struct GuestMem {
     regions: ArrayVec<Region, 16>,
     /// How many bytes the regions before each one have together.
     before: ArrayVec<u64, 16>,
+    /// Which region a search tries first, by the window of the address.
+    guesses: [u8; 128],
     /// The bytes of all regions, one region after another.
     bytes: Vec<u8>,
 }
@@ -68,6 +71,7 @@ impl GuestMem {
             Ok(bytes) => Ok(GuestMem {
                 regions: copy_of(list),
                 before: sums_before(list),
+                guesses: guesses_of(list),
                 bytes,
             }),
             Err(_) => Err(MemFault::NoMemory),
@@ -89,7 +93,7 @@ impl GuestMem {
         ensures gap { IsGap self.now from result }
         ensures ram { (n : ℕ) → from + n ≤ result → AreRam self.now from n }
     {
-        gap_from(self.regions.as_slice(), from)
+        gap_from(self.regions.as_slice(), &self.guesses, from)
     }
 
     /// Whether each of the `n` bytes from `pa` on is RAM.
@@ -106,7 +110,12 @@ impl GuestMem {
         requires { AreRam self.now pa (length out.old) }
         ensures { out.new ≡ bytes_of self.now pa (length out.old) }
     {
-        let at = position(self.regions.as_slice(), self.before.as_slice(), pa);
+        let at = position(
+            self.regions.as_slice(),
+            self.before.as_slice(),
+            &self.guesses,
+            pa,
+        );
         out.copy_from_slice(&self.bytes[at..at + out.len()]);
     }
 
@@ -117,7 +126,12 @@ impl GuestMem {
         ensures written { self.new ≡ put_bytes self.old pa bytes.now }
         ensures same_regions { regions_of self.new ≡ regions_of self.old }
     {
-        let at = position(self.regions.as_slice(), self.before.as_slice(), pa);
+        let at = position(
+            self.regions.as_slice(),
+            self.before.as_slice(),
+            &self.guesses,
+            pa,
+        );
         self.bytes[at..at + bytes.len()].copy_from_slice(bytes);
     }
 
@@ -128,7 +142,7 @@ impl GuestMem {
         ensures bytes { IfSome result (λ bytes. bytes ≡ bytes_of self.now pa N) }
     {
         let regions = self.regions.as_slice();
-        let at = range_of(regions, self.before.as_slice(), pa, N as u64)?;
+        let at = range_of(regions, self.before.as_slice(), &self.guesses, pa, N as u64)?;
         let mut out = [0; N];
         out.copy_from_slice(&self.bytes[at..at + N]);
         Some(out)
@@ -144,7 +158,7 @@ impl GuestMem {
         ensures same_regions { regions_of self.new ≡ regions_of self.old }
     {
         let regions = self.regions.as_slice();
-        let found = range_of(regions, self.before.as_slice(), pa, N as u64);
+        let found = range_of(regions, self.before.as_slice(), &self.guesses, pa, N as u64);
         let Some(at) = found else {
             return false;
         };
@@ -159,7 +173,12 @@ impl GuestMem {
         ensures written { self.new ≡ filled self.old pa unit.now count }
         ensures same_regions { regions_of self.new ≡ regions_of self.old }
     {
-        let at = position(self.regions.as_slice(), self.before.as_slice(), pa);
+        let at = position(
+            self.regions.as_slice(),
+            self.before.as_slice(),
+            &self.guesses,
+            pa,
+        );
         let count = count as usize;
         let len = unit.len() * count;
         repeat(&mut self.bytes[at..at + len], unit, count);
@@ -177,8 +196,18 @@ impl GuestMem {
         ensures written { self.new ≡ copied_up self.old dst src unit count }
         ensures same_regions { regions_of self.new ≡ regions_of self.old }
     {
-        let to = position(self.regions.as_slice(), self.before.as_slice(), dst);
-        let from = position(self.regions.as_slice(), self.before.as_slice(), src);
+        let to = position(
+            self.regions.as_slice(),
+            self.before.as_slice(),
+            &self.guesses,
+            dst,
+        );
+        let from = position(
+            self.regions.as_slice(),
+            self.before.as_slice(),
+            &self.guesses,
+            src,
+        );
         move_up(&mut self.bytes, to, from, unit as usize, count as usize);
     }
 
@@ -193,8 +222,18 @@ impl GuestMem {
         ensures written { self.new ≡ copied_down self.old dst src unit count }
         ensures same_regions { regions_of self.new ≡ regions_of self.old }
     {
-        let to = position(self.regions.as_slice(), self.before.as_slice(), dst);
-        let from = position(self.regions.as_slice(), self.before.as_slice(), src);
+        let to = position(
+            self.regions.as_slice(),
+            self.before.as_slice(),
+            &self.guesses,
+            dst,
+        );
+        let from = position(
+            self.regions.as_slice(),
+            self.before.as_slice(),
+            &self.guesses,
+            src,
+        );
         move_down(&mut self.bytes, to, from, unit as usize, count as usize);
     }
 }

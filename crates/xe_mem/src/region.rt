@@ -116,3 +116,26 @@ pub(crate) fn sums_before(list: &[Region]) -> ArrayVec<u64, 16>
     }
     before
 }
+
+/// The window that an address lies in: one of 128 with 256 KiB each, which come again every 32 MiB. The
+/// parts of a PC's lowest megabyte, and regions of a megabyte each up to 32 MiB, lie in windows of
+/// their own.
+#[inline(always)]
+pub(crate) fn window_of(pa: u64) -> usize
+    ensures { result < 128 }
+{
+    (pa >> 18) as usize % 128
+}
+
+/// For each window the index of the last region that has a part of it: the one that is tried first.
+/// Nothing depends on these but time.
+pub(crate) fn guesses_of(list: &[Region]) -> [u8; 128] {
+    let mut guesses = [0; 128];
+    for (i, region) in list.iter().enumerate() {
+        let last = region.start.saturating_add(region.len).saturating_sub(1);
+        for window in region.start >> 18..=last >> 18 {
+            guesses[window as usize % 128] = (i % MAX_REGIONS) as u8;
+        }
+    }
+    guesses
+}

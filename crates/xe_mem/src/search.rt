@@ -1,16 +1,18 @@
-//! Where an address lies among the regions, by one search whose cost hardly grows with their number.
+//! Where an address lies among the regions, at a cost that doesn't grow with their number where each
+//! lies in a window of its own, and hardly elsewhere.
 
 ghost use Rattle.std.specs.Prelude.{◌≡◌, ℕ, ◌+◌, ◌^◌, ◌<◌, ◌≤◌, length, true, MatchOption};
 ghost use Rattle.xe_mem.specs.Layout.{follow, total};
 ghost use Rattle.xe_mem.specs.Flat.{place, gap_behind, IsBefore, IsFound};
 
-use crate::region::{Region, total_len};
+use crate::region::{Region, total_len, window_of};
 
 /// The index of the last region that begins at or below `pa`; 0 where there is none. No other
 /// region can have the address.
 ///
 /// Each turn halves the number of regions in question.
-#[inline]
+#[cold]
+#[inline(never)]
 fn find(regions: &[Region], pa: u64) -> usize
     requires { follow 0 regions.now ≡ true }
     ensures { IsFound regions.now pa result }
@@ -25,6 +27,22 @@ fn find(regions: &[Region], pa: u64) -> usize
         count -= half;
     }
     first
+}
+
+/// The index that `find` answers, nearly always without a search: the guess of the address's window is
+/// tried first. A guess is never trusted, so it needn't say anything.
+#[inline(always)]
+fn index_of(regions: &[Region], guesses: &[u8; 128], pa: u64) -> usize
+    requires { follow 0 regions.now ≡ true }
+    ensures { IsFound regions.now pa result }
+{
+    let guess = guesses[window_of(pa)] as usize;
+    if let Some(region) = regions.get(guess) {
+        if region.covers(pa) {
+            return guess;
+        }
+    }
+    find(regions, pa)
 }
 
 /// Where the byte at `pa` lies, if those of all regions stand one region after another; their
@@ -88,9 +106,10 @@ fn pass_touching(regions: &[Region], index: usize, from: u64) -> u64
 }
 
 /// Where the `n` bytes from `pa` on lie among those of all regions, if no gap comes before their
-/// end. The region at `index` is the one that was found for `pa`.
-#[inline]
-fn range_at(regions: &[Region], before: &[u64], index: usize, pa: u64, n: u64) -> Option<usize>
+/// end, where they don't all lie in the region at `index`, which is the one that was found for `pa`.
+#[cold]
+#[inline(never)]
+fn range_on(regions: &[Region], before: &[u64], index: usize, pa: u64, n: u64) -> Option<usize>
     requires follows { follow 0 regions.now ≡ true }
     requires small { total regions.now < 2 ^ 63 }
     requires before { IsBefore regions.now before.now }
@@ -103,79 +122,49 @@ fn range_at(regions: &[Region], before: &[u64], index: usize, pa: u64, n: u64) -
     Some(place_at(regions, before, index, pa))
 }
 
-/// Where the byte at `pa` lies among those of all regions; their number, where `pa` isn't RAM.
-///
-/// Here and below a lone region, which most guests have, is tried with no search and no call.
-#[inline]
-pub(crate) fn position(regions: &[Region], before: &[u64], pa: u64) -> usize
+/// Where the `n` bytes from `pa` on lie among those of all regions, if no gap comes before their
+/// end.
+#[inline(always)]
+pub(crate) fn range_of(
+    regions: &[Region],
+    before: &[u64],
+    guesses: &[u8; 128],
+    pa: u64,
+    n: u64,
+) -> Option<usize>
     requires follows { follow 0 regions.now ≡ true }
     requires small { total regions.now < 2 ^ 63 }
     requires before { IsBefore regions.now before.now }
-    ensures { result ≡ place regions.now pa }
+    ensures { MatchOption result (gap_behind regions.now pa < pa + n) (λ at. (pa + n ≤ gap_behind regions.now pa) × (at ≡ place regions.now pa)) }
 {
-    if regions.len() == 1 {
-        return place_at(regions, before, 0, pa);
+    let index = index_of(regions, guesses, pa);
+    if let Some(region) = regions.get(index) {
+        if region.covers(pa) {
+            let ahead = pa - region.start;
+            if n <= region.len - ahead {
+                return Some((before[index] + ahead) as usize);
+            }
+        }
     }
-    position_among(regions, before, pa)
+    range_on(regions, before, index, pa, n)
 }
 
-/// The same among several regions.
-#[cold]
-#[inline(never)]
-fn position_among(regions: &[Region], before: &[u64], pa: u64) -> usize
+/// Where the byte at `pa` lies among those of all regions; their number, where `pa` isn't RAM.
+#[inline]
+pub(crate) fn position(regions: &[Region], before: &[u64], guesses: &[u8; 128], pa: u64) -> usize
     requires follows { follow 0 regions.now ≡ true }
     requires small { total regions.now < 2 ^ 63 }
     requires before { IsBefore regions.now before.now }
     ensures { result ≡ place regions.now pa }
 {
-    place_at(regions, before, find(regions, pa), pa)
+    place_at(regions, before, index_of(regions, guesses, pa), pa)
 }
 
 /// The first address from `from` on that is in none of these regions.
 #[inline]
-pub(crate) fn gap_from(regions: &[Region], from: u64) -> u64
+pub(crate) fn gap_from(regions: &[Region], guesses: &[u8; 128], from: u64) -> u64
     requires { follow 0 regions.now ≡ true }
     ensures { result ≡ gap_behind regions.now from }
 {
-    if regions.len() == 1 {
-        return gap_at(regions, 0, from);
-    }
-    gap_among(regions, from)
-}
-
-/// The same among several regions.
-#[cold]
-#[inline(never)]
-fn gap_among(regions: &[Region], from: u64) -> u64
-    requires { follow 0 regions.now ≡ true }
-    ensures { result ≡ gap_behind regions.now from }
-{
-    gap_at(regions, find(regions, from), from)
-}
-
-/// Where the `n` bytes from `pa` on lie among those of all regions, if no gap comes before their
-/// end.
-#[inline]
-pub(crate) fn range_of(regions: &[Region], before: &[u64], pa: u64, n: u64) -> Option<usize>
-    requires follows { follow 0 regions.now ≡ true }
-    requires small { total regions.now < 2 ^ 63 }
-    requires before { IsBefore regions.now before.now }
-    ensures { MatchOption result (gap_behind regions.now pa < pa + n) (λ at. (pa + n ≤ gap_behind regions.now pa) × (at ≡ place regions.now pa)) }
-{
-    if regions.len() == 1 {
-        return range_at(regions, before, 0, pa, n);
-    }
-    range_among(regions, before, pa, n)
-}
-
-/// The same among several regions.
-#[cold]
-#[inline(never)]
-fn range_among(regions: &[Region], before: &[u64], pa: u64, n: u64) -> Option<usize>
-    requires follows { follow 0 regions.now ≡ true }
-    requires small { total regions.now < 2 ^ 63 }
-    requires before { IsBefore regions.now before.now }
-    ensures { MatchOption result (gap_behind regions.now pa < pa + n) (λ at. (pa + n ≤ gap_behind regions.now pa) × (at ≡ place regions.now pa)) }
-{
-    range_at(regions, before, find(regions, pa), pa, n)
+    gap_at(regions, index_of(regions, guesses, from), from)
 }
