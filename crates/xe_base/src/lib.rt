@@ -5,6 +5,7 @@
 pub mod access;
 pub mod cpu;
 pub mod laws;
+pub mod little_endian;
 pub mod register;
 pub mod segment;
 pub mod word;
@@ -14,6 +15,7 @@ pub use access::{
     PAGE_FAULT, SEGMENT_NOT_PRESENT, STACK_FAULT, Space,
 };
 pub use cpu::{BadState, CodeSize, Cpu, Mode};
+pub use little_endian::number_of_8;
 pub use segment::{Seg, SegName, Table};
 pub use word::Word;
 

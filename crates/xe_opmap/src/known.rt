@@ -9,20 +9,7 @@ ghost use Rattle.xe_opmap.specs.Valid.{IsDecoded};
 use crate::decoder::BLANK;
 use crate::insn::{Decoded, Insn};
 use std::marker::Model;
-use xe_base::CodeSize;
-
-/// The number that 8 bytes are, the lowest first. It is one load.
-#[inline(always)]
-#[tactic(auto, unfolding(xe_base::specs::Bytes::num))]
-fn number_of(bytes: &[u8]) -> u64
-    requires { length bytes.now ≡ 8 }
-    ensures { result ≡ num bytes.now }
-{
-    match bytes {
-        [a, b, c, d, e, f, g, h] => u64::from_le_bytes([*a, *b, *c, *d, *e, *f, *g, *h]),
-        _ => unreachable!(),
-    }
-}
+use xe_base::{CodeSize, number_of_8};
 
 /// The number that the first 8 bytes are. A compiler joins the loads of a number where no other one has
 /// them, which holds in this function and in the next alone.
@@ -30,7 +17,7 @@ fn number_of(bytes: &[u8]) -> u64
 fn front_of(bytes: &[u8; 15]) -> u64
     ensures { result ≡ num (take 8 bytes.now) }
 {
-    number_of(&bytes[..8])
+    number_of_8(&bytes[..8])
 }
 
 /// The number that the last 8 bytes are.
@@ -38,7 +25,7 @@ fn front_of(bytes: &[u8; 15]) -> u64
 fn back_of(bytes: &[u8; 15]) -> u64
     ensures { result ≡ num (drop 7 bytes.now) }
 {
-    number_of(&bytes[7..])
+    number_of_8(&bytes[7..])
 }
 
 /// The mask of the lowest bytes of a number, so many of them.
@@ -97,16 +84,16 @@ impl Place {
 
     /// The instruction of this place, where it is that of these bytes, which are given as two numbers.
     #[inline(always)]
-    fn find(&self, size: CodeSize, front: u64, back: u64) -> Option<Insn>
+    fn find(&self, size: CodeSize, front: u64, back: u64) -> Option<&Insn>
         requires { IsPlace self.now }
-        ensures gives { IfSome result (λ insn. Gives size front back insn) }
-        ensures ranges { IfSome result (λ insn. IsDecoded size (Decoded.Insn insn)) }
+        ensures gives { IfSome result (λ insn. Gives size front back insn.now) }
+        ensures ranges { IfSome result (λ insn. IsDecoded size (Decoded.Insn insn.now)) }
     {
         if front & self.front_mask == self.front
             && back & self.back_mask == self.back
             && size == self.size
         {
-            return Some(self.insn);
+            return Some(&self.insn);
         }
         None
     }
@@ -145,9 +132,9 @@ impl Known {
 
     /// The instruction that these 15 bytes begin with, where it is known. The address only says where to look.
     #[inline(always)]
-    pub fn find(&self, size: CodeSize, rip: u64, bytes: &[u8; 15]) -> Option<Insn>
-        ensures is { IfSome result (λ insn. finished (decode_part size bytes.now) ≡ Decoded.Insn insn) }
-        ensures ranges { IfSome result (λ insn. IsDecoded size (Decoded.Insn insn)) }
+    pub fn find(&self, size: CodeSize, rip: u64, bytes: &[u8; 15]) -> Option<&Insn>
+        ensures is { IfSome result (λ insn. finished (decode_part size bytes.now) ≡ Decoded.Insn insn.now) }
+        ensures ranges { IfSome result (λ insn. IsDecoded size (Decoded.Insn insn.now)) }
     {
         let place = &self.places[(rip % 512) as usize];
         place.find(size, front_of(bytes), back_of(bytes))

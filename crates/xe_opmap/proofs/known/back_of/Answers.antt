@@ -4,4 +4,4 @@ use Rattle.xe_base.specs.Bytes.{num}
 use Rattle.xe_opmap.proofs.known.back_of.Goals as goal
 
 pub returns : goal.returns
-returns c = c.number_of.ensures ∙ ap num (take_all 8 (drop 7 c.args.bytes.now) (omega (arith, length-drop 7 c.args.bytes.now, c.told-bytes)))
+returns c = c.number_of_8.ensures ∙ ap num (take_all 8 (drop 7 c.args.bytes.now) (omega (arith, length-drop 7 c.args.bytes.now, c.told-bytes)))
