@@ -20,6 +20,7 @@ pub mod Walks
 pub mod Places
 pub mod Calls
 pub mod Locates
+pub mod AtOnce
 pub mod NextLaws
 pub mod FinishLaws
 pub mod Cover

@@ -41,11 +41,18 @@ module _ (ram : List Area) (cells : List Cell) (pa n : ℕ) (test : Bool) (to : 
   all-patched : all_ram (patched ram cells) pa n ≡ test
   all-patched = same-test (patched ram cells) pa n ∙ are_ram-patched ram cells pa n ∙ sym (are_ram-same ram pa n test to from)
 
-  pub entry-none : test ≡ false → None ≡ entry_of (patched ram cells) pa n
+  entry-none : test ≡ false → None ≡ entry_of (patched ram cells) pa n
   entry-none f = rw (all-patched, f) refl
 
-  pub entry-some : (value : ℕ) → test ≡ true → value ≡ num (bytes_of (patched ram cells) pa n) → Some value ≡ entry_of (patched ram cells) pa n
+  entry-some : (value : ℕ) → test ≡ true → value ≡ num (bytes_of (patched ram cells) pa n) → Some value ≡ entry_of (patched ram cells) pa n
   entry-some value t v = rw (all-patched, t, v) refl
+
+-- an entry that is read where its bytes are RAM
+pub entry-missing : (ram : List Area) (cells : List Cell) (pa n : ℕ) → (AreRam ram pa n → false ≡ true) → None ≡ entry_of (patched ram cells) pa n
+entry-missing ram cells pa n from = entry-none ram cells pa n false (λ h. cc) from refl
+
+pub entry-read : (ram : List Area) (cells : List Cell) (pa n value : ℕ) → (true ≡ true → AreRam ram pa n) → value ≡ num (bytes_of (patched ram cells) pa n) → Some value ≡ entry_of (patched ram cells) pa n
+entry-read ram cells pa n value to is = entry-some ram cells pa n true to (λ are. refl) value refl is
 
 -- ---- one byte
 

@@ -1,4 +1,5 @@
-use Rattle.std.proofs.Common.{ℕ, zero, suc, ◌≡◌, ◌<◌, ◌+◌, List, [], ◌∷◌, ◌++◌, refl, sym, ◌∙◌, arith, true, Bool, inl, inr}
+use Rattle.std.proofs.Common.{ℕ, zero, suc, ◌≡◌, ◌<◌, ◌+◌, List, [], ◌∷◌, ◌++◌, refl, sym, ◌∙◌, arith, true, false, Bool, inl, inr, Option, Some, None}
+use Rattle.std.specs.Prelude.{IsSome, OnSome, IfNone}
 use Rattle.std.proofs.lemmas.Bool.{cases_Bool}
 use Rattle.xe_base.specs.Ram.{Area, in_ram, put_byte, AreRam}
 use Rattle.xe_base.proofs.Ram.{in-put}
@@ -65,6 +66,18 @@ are_ram-same ram pa n b to from = elim (cases_Bool b) [
     | inl u ↦ let g = from (are-from ram pa n u) in cc
     | inr u ↦ f ∙ sym u
   ]
+]
+
+-- an answer that is there exactly where the bytes are RAM
+pub present-some : {A : Type 0} (answer : Option A) (ram : List Area) (pa n : ℕ) → (IsSome answer → AreRam ram pa n) → OnSome answer (are_ram ram pa n ≡ true)
+present-some (Some x) ram pa n to = are-to ram pa n (to refl)
+present-some None ram pa n to = tt
+
+pub present-none : {A : Type 0} (answer : Option A) (ram : List Area) (pa n : ℕ) → (AreRam ram pa n → IsSome answer) → IfNone answer (are_ram ram pa n ≡ false)
+present-none (Some x) ram pa n from = tt
+present-none None ram pa n from = elim (cases_Bool (are_ram ram pa n)) [
+  | inl t ↦ let some = from (are-from ram pa n t) in cc
+  | inr f ↦ f
 ]
 
 pub are-len : (ram : List Area) (a n m : ℕ) → m ≡ n → AreRam ram a n → AreRam ram a m

@@ -1,4 +1,4 @@
-use Rattle.std.specs.Prelude.{ℕ, ◌≡◌, ◌+◌, ◌≤◌, Option, Result, Ok, Err}
+use Rattle.std.specs.Prelude.{ℕ, ◌≡◌, ◌+◌, ◌≤◌, Bool, true, false, Option, Result, Ok, Err}
 use Rattle.xe_base.specs.declared.cpu.Cpu.{Cpu}
 use Rattle.xe_icpt.specs.declared.exit.Exit.{Exit}
 use Rattle.xe_icpt.specs.declared.point.Point.{Point}
@@ -57,6 +57,13 @@ pub record RunsWithin {B I T : Type 0} (sight : B → BusView) (hits : I → Poi
 -- a row does what its definition says, with the draft that it leaves
 abbrev pub Finishes : {B I : Type 0} → (B → BusView) → (I → Point → Option Exit) → Tree Finish → Ctx B I → Result End Stop → Cpu → Ctx B I → Type 0
 Finishes sight hits tree old res cpu new = Runs sight hits tree old (finished res cpu) new
+
+-- A row that is done at once or not at all says whether it was. It was: it does what its definition says, with the draft that it leaves, and
+-- ends with nothing left to be done. It wasn't: nothing has changed, the draft neither.
+pub record AtOnce {B I : Type 0} (sight : B → BusView) (hits : I → Point → Option Exit) (tree : Tree Finish) (old : Ctx B I) (draft : Cpu) (did : Bool) (new : Ctx B I) (after : Cpu) : Type 0 where
+  pub done : did ≡ true → Finishes sight hits tree old (Ok (record { more = false; retire = 0 })) after new
+  pub stays : did ≡ false → new ≡ old
+  pub draft_stays : did ≡ false → after ≡ draft
 
 -- a part of a row does, and leaves its draft
 abbrev pub DraftsWithin : {B I : Type 0} → (B → BusView) → (I → Point → Option Exit) → Tree Cpu → Ctx B I → Result (Unit {0}) Stop → Cpu → Ctx B I → ℕ → ℕ → Type 0

@@ -93,10 +93,6 @@ accesses_left ctx = 256 - length (made_of ctx.m.now)
 abbrev pub bytes_left : {B I : Type 0} → Ctx B I → ℕ
 bytes_left ctx = 1024 - length (cells_of ctx.m.now)
 
--- how many bytes of the instruction were fetched
-abbrev pub fetched_of : {B I : Type 0} → Ctx B I → ℕ
-fetched_of ctx = length ctx.code.items
-
 -- the bytes of the instruction that were fetched
 abbrev pub code_of : {B I : Type 0} → Ctx B I → List ℕ
 code_of ctx = ctx.code.items

@@ -6,6 +6,7 @@ ghost use Rattle.xe_base.specs.Bytes.{num, le};
 ghost use Rattle.xe_ctx.specs.Chunks.{first_size, chunks};
 
 use arrayvec::ArrayVec;
+use xe_base::number_of_8;
 
 /// A part of an access that goes to a device as one: its physical address, its place in the access
 /// and its size.
@@ -29,19 +30,6 @@ fn sum_of(bytes: &[u8]) -> u128
         number = number * 256 + bytes[at] as u128;
     }
     number
-}
-
-/// The number that 8 bytes are, the lowest first.
-#[inline(always)]
-#[tactic(auto, unfolding(xe_base::specs::Bytes::num))]
-fn number_of_8(bytes: &[u8]) -> u64
-    requires { length bytes.now ≡ 8 }
-    ensures { result ≡ num bytes.now }
-{
-    match bytes {
-        [a, b, c, d, e, f, g, h] => u64::from_le_bytes([*a, *b, *c, *d, *e, *f, *g, *h]),
-        _ => unreachable!(),
-    }
 }
 
 /// The number that the bytes are, the lowest first. At the sizes of operands it is one load.

@@ -2,6 +2,7 @@
 
 ghost use Rattle.std.specs.Prelude.{◌≡◌, ℕ, ◌+◌, ◌-◌, ◌<◌, ◌≤◌, ◌^◌, [], length, None, Result, Ok, Err, IfOk, IfSome, OnOk, IfNone, IsTrue, slice_index};
 ghost use Rattle.xe_base.specs.Access.{IsWellFormed, answers_to};
+ghost use Rattle.xe_base.specs.Calm.{Calm};
 ghost use Rattle.xe_base.specs.State.{Valid};
 ghost use Rattle.xe_icpt.specs.Points.{IsPoint};
 ghost use Rattle.xe_ctx.specs.Bus.{HasRoom};
@@ -13,7 +14,7 @@ ghost use Rattle.xe_ctx.specs.Part.{ask};
 ghost use Rattle.xe_ctx.specs.Tree.{device, point};
 ghost use Rattle.xe_ctx.specs.Kept.{nothing};
 ghost use Rattle.xe_ctx.specs.Recorded.{kept_of};
-ghost use Rattle.xe_ctx.specs.View.{view, opens, accepts, work_of, made_in, cpu_of, state_in, kept_in, machine_ref, bus_ref, record_ref, machine_back, bus_back, record_back, SameHandles, IsOpen, accesses_left, bytes_left, fetched_of, code_of, kept_after, CanKeep, unused};
+ghost use Rattle.xe_ctx.specs.View.{view, opens, accepts, work_of, made_in, cpu_of, state_in, kept_in, machine_ref, bus_ref, record_ref, machine_back, bus_back, record_back, SameHandles, IsOpen, accesses_left, bytes_left, code_of, kept_after, CanKeep, unused};
 
 use crate::bus::Bus;
 use crate::machine::Machine;
@@ -170,6 +171,28 @@ impl<'a, B: Bus, I: Intercepts> Ctx<'a, B, I> {
             code: _,
         } = self;
         m.install(cpu);
+        rec.abandon();
+    }
+
+    /// The same where the registers changed calmly, as nearly every instruction changes them: the general
+    /// ones, RIP, and of RFLAGS what an instruction may change. The others aren't copied.
+    #[inline(always)]
+    pub fn commit_calm(self, cpu: &Cpu)
+        requires open { IsOpen B.sight self }
+        requires calm { Calm (cpu_of self) cpu.now }
+        requires reached { unused (kept_in self) (made_in self) ≡ None }
+        ensures bus { (bus_back self.exit).now ≡ (bus_ref self.entry).now }
+        ensures machine { state_of (machine_back self.exit).now ≡ record { cpu = cpu.now; ram = work_of self.entry } }
+        ensures record { kept_of (record_back self.exit).now ≡ nothing }
+    {
+        let Ctx {
+            m,
+            icpt: _,
+            bus: _,
+            rec,
+            code: _,
+        } = self;
+        m.install_calm(cpu);
         rec.abandon();
     }
 

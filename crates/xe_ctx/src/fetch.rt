@@ -7,7 +7,7 @@ ghost use Rattle.xe_ctx.specs.Ending.{stop_of, stopped};
 ghost use Rattle.xe_ctx.specs.Fetch.{avail, byte_at, code_address, code_byte, fetch_fault, fetch_kind, fetched_from, may_fetch, MayFetch, IsPlaced, IsRun};
 ghost use Rattle.xe_ctx.specs.Machine.{state_of, cells_of, made_of, work_of, CellsFit, OnlyKnown};
 ghost use Rattle.xe_ctx.specs.Translate.{marked};
-ghost use Rattle.xe_ctx.specs.View.{view, accepts, cpu_of, state_in, SameHandles, IsOpen, accesses_left, bytes_left, fetched_of, code_of};
+ghost use Rattle.xe_ctx.specs.View.{view, accepts, cpu_of, state_in, SameHandles, IsOpen, accesses_left, bytes_left, code_of};
 ghost use Rattle.xe_opmap.specs.Encoding.{decode_part, finished};
 ghost use Rattle.xe_opmap.specs.Valid.{IsDecoded};
 ghost use Rattle.xe_walk.specs.Walk.{walk, entries};
@@ -216,21 +216,15 @@ impl Machine {
         self.mem.read::<15>(pa)
     }
 
-    /// The instruction, if all its bytes are read at once and it was decoded before. These bytes
-    /// are then those that were fetched.
+    /// The instruction, if all its bytes are read at once and it was decoded before.
     #[inline(always)]
-    fn known_insn(&self, code: &mut ArrayVec<u8, 15>) -> Option<Insn>
-        requires none { code.old.items ≡ [] }
-        ensures is { IfSome result (λ insn. finished (decode_part (code_size_of (state_of self.now).cpu) (avail (state_of self.now)).bytes) ≡ Decoded.Insn insn) }
-        ensures ranges { IfSome result (λ insn. IsDecoded (code_size_of (state_of self.now).cpu) (Decoded.Insn insn)) }
-        ensures code { OnSome result (code.new.items ≡ (avail (state_of self.now)).bytes) }
-        ensures stays { IfNone result (code.new.items ≡ code.old.items) }
+    fn known_insn(&self) -> Option<&Insn>
+        ensures is { IfSome result (λ insn. finished (decode_part (code_size_of (state_of self.now).cpu) (avail (state_of self.now)).bytes) ≡ Decoded.Insn insn.now) }
+        ensures ranges { IfSome result (λ insn. IsDecoded (code_size_of (state_of self.now).cpu) (Decoded.Insn insn.now)) }
     {
         let bytes = self.code_at_once()?;
         let size = self.cpu.code_size();
-        let insn = self.scratch.known.find(size, self.cpu.rip, &bytes)?;
-        append_code(code, &bytes);
-        Some(insn)
+        self.scratch.known.find(size, self.cpu.rip, &bytes)
     }
 
     /// Keeps what the bytes of the instruction were decoded as, where these are 15.
@@ -283,7 +277,7 @@ impl Machine {
     }
 
     /// Marks the pages of the instruction's first `len` bytes as accessed. These lie in two pages at most.
-    #[inline]
+    #[inline(always)]
     fn mark_code(&mut self, len: u8)
         requires had { len ≤ length (avail (state_of self.old)).bytes }
         requires room { length (cells_of self.old) + 10 ≤ 1024 }
@@ -328,27 +322,31 @@ impl<'a, B: Bus, I: Intercepts> Ctx<'a, B, I> {
         self.m.read_code(&mut self.code)
     }
 
+    /// The instruction at CS:RIP, if it was decoded at the same RIP before, from the same bytes, and all
+    /// 15 bytes there lie in one page of RAM: what [`Ctx::decode`] answers, without decoding.
+    #[inline(always)]
+    pub fn known(&self) -> Option<&Insn>
+        ensures is { IfSome result (λ insn. finished (decode_part (code_size_of (cpu_of self.now)) (avail (state_in self.now)).bytes) ≡ Decoded.Insn insn.now) }
+        ensures ranges { IfSome result (λ insn. IsDecoded (code_size_of (cpu_of self.now)) (Decoded.Insn insn.now)) }
+    {
+        self.m.known_insn()
+    }
+
     /// What the bytes of the instruction at CS:RIP that can be had begin with, as [`decode`] says of
     /// them; where they end before it is decided, [`Ctx::missing`] says why the next one can't be had.
-    ///
-    /// An instruction that was decoded at the same RIP before, from the same bytes, isn't decoded again.
-    #[inline(always)]
+    /// An instruction is kept, so that [`Ctx::known`] finds it.
     pub fn decode(&mut self) -> Decoded
         requires open { IsOpen B.sight self.old }
         requires none { code_of self.old ≡ [] }
         ensures value { result ≡ finished (decode_part (code_size_of (cpu_of self.old)) (avail (state_in self.old)).bytes) }
         ensures ranges { IsDecoded (code_size_of (cpu_of self.old)) result }
-        ensures code { code_of self.new ≡ (avail (state_in self.old)).bytes }
         ensures same { SameHandles self.old self.new }
         ensures open { IsOpen B.sight self.new }
         ensures step { view B.sight I.hits self.new ≡ view B.sight I.hits self.old }
         ensures accesses { accesses_left self.new ≡ accesses_left self.old }
         ensures bytes { bytes_left self.new ≡ bytes_left self.old }
     {
-        match self.m.known_insn(&mut self.code) {
-            Some(insn) => Decoded::Insn(insn),
-            None => self.m.decode_anew(&mut self.code),
-        }
+        self.m.decode_anew(&mut self.code)
     }
 
     /// Why the first byte of the instruction that can't be had can't, as [`Ctx::read_code`] answers.
@@ -366,8 +364,7 @@ impl<'a, B: Bus, I: Intercepts> Ctx<'a, B, I> {
         requires open { IsOpen B.sight self.old }
         requires small { i ≤ 14 }
         ensures byte { result ≡ byte_at (avail (state_in self.old)) i }
-        ensures fetched { OnOk result (i < fetched_of self.new) }
-        ensures more { fetched_of self.old ≤ fetched_of self.new }
+        ensures had { OnOk result (i < length (avail (state_in self.old)).bytes) }
         ensures same { SameHandles self.old self.new }
         ensures open { IsOpen B.sight self.new }
         ensures step { view B.sight I.hits self.new ≡ view B.sight I.hits self.old }
@@ -383,11 +380,12 @@ impl<'a, B: Bus, I: Intercepts> Ctx<'a, B, I> {
         Ok(self.code.as_slice()[i as usize])
     }
 
-    /// The instruction is the first `len` bytes that were fetched: their pages are marked as accessed, in the
-    /// RAM as the step sees it. Without paging nothing changes. (SDM volume 3, "Accessed and Dirty Flags".)
+    /// The instruction is the first `len` of the bytes that can be had: their pages are marked as accessed, in
+    /// the RAM as the step sees it. Without paging nothing changes. (SDM volume 3, "Accessed and Dirty Flags".)
+    #[inline(always)]
     pub fn accept(&mut self, len: u8)
         requires open { IsOpen B.sight self.old }
-        requires fetched { len ≤ fetched_of self.old }
+        requires had { len ≤ length (avail (state_in self.old)).bytes }
         requires bytes { 10 ≤ bytes_left self.old }
         ensures same { SameHandles self.old self.new }
         ensures open { IsOpen B.sight self.new }

@@ -2,6 +2,7 @@
 //! instructions share.
 #![tactic(auto)]
 
+mod at_once;
 pub mod bus;
 mod chunk;
 pub mod ctx;

@@ -43,7 +43,8 @@ pub struct NotRam {
 }
 
 impl Machine {
-    ghost use Rattle.std.specs.Prelude.{◌≡◌, ◌<◌, ◌≤◌, ◌+◌, ◌*◌, ◌^◌, ◌++◌, [], ◌∷◌, length, IfOk, IfErr, OnOk, OnErr, Some, None, Ok, Err, true};
+    ghost use Rattle.std.specs.Prelude.{◌≡◌, ◌<◌, ◌≤◌, ◌+◌, ◌*◌, ◌^◌, ◌++◌, [], ◌∷◌, length, IfOk, IfErr, OnOk, OnErr, IfSome, OnSome, IfNone, Some, None, Ok, Err, true, false};
+    ghost use Rattle.xe_base.specs.Calm.{Calm};
     ghost use Rattle.xe_base.specs.State.{Valid, broken, answer_of};
     ghost use Rattle.xe_base.specs.Bytes.{num, le};
     ghost use Rattle.xe_base.specs.Ram.{bytes_of, put_bytes};
@@ -190,13 +191,15 @@ impl Machine {
         all
     }
 
-    /// The number that bytes of the RAM are, as the running step sees them.
+    /// The number that bytes of the RAM are, as the running step sees them; none where one of them isn't
+    /// RAM.
     #[inline]
-    pub(crate) fn number(&self, pa: u64, n: usize) -> u128
+    pub(crate) fn number(&self, pa: u64, n: usize) -> Option<u128>
         requires size { is_size n ≡ true }
-        requires ram { are_ram (state_of self.now).ram pa n ≡ true }
-        ensures is { result ≡ num (bytes_of (work_of self.now) pa n) }
-        ensures below { result < 2 ^ (8 * n) }
+        ensures ram { OnSome result (are_ram (state_of self.now).ram pa n ≡ true) }
+        ensures none { IfNone result (are_ram (state_of self.now).ram pa n ≡ false) }
+        ensures is { IfSome result (λ v. v ≡ num (bytes_of (work_of self.now) pa n)) }
+        ensures below { IfSome result (λ v. v < 2 ^ (8 * n)) }
     {
         number_at(&self.mem, self.scratch.runs.as_slice(), pa, n)
     }
@@ -242,6 +245,19 @@ impl Machine {
         ensures { state_of self.new ≡ record { cpu = cpu; ram = work_of self.old } }
     {
         self.cpu = cpu;
+        apply(&mut self.mem, self.scratch.runs.as_slice());
+    }
+
+    /// The same where the registers changed calmly: the general ones, RIP and RFLAGS alone.
+    #[inline(always)]
+    pub(crate) fn install_calm(&mut self, cpu: &Cpu)
+        requires calm { Calm (state_of self.old).cpu cpu.now }
+        requires cells { CellsFit self.old }
+        ensures { state_of self.new ≡ record { cpu = cpu.now; ram = work_of self.old } }
+    {
+        self.cpu.gpr = cpu.gpr;
+        self.cpu.rip = cpu.rip;
+        self.cpu.rflags = cpu.rflags;
         apply(&mut self.mem, self.scratch.runs.as_slice());
     }
 }

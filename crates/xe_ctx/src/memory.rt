@@ -247,10 +247,10 @@ impl<'a, B: Bus, I: Intercepts> Ctx<'a, B, I> {
         ensures below { IfOk result (λ v. v < 2 ^ (8 * n)) }
         ensures part { (at : ℕ) → Does (numbered (read_place (record { pa = pa; at = at; n = n }))) (view B.sight I.hits self.old) result (view B.sight I.hits self.new) }
     {
-        if !self.m.is_ram(pa, n as u64) {
-            return self.number_of_devices(pa, n);
+        match self.m.number(pa, n) {
+            Some(number) => Ok(number),
+            None => self.number_of_devices(pa, n),
         }
-        Ok(self.m.number(pa, n))
     }
 
     /// The number that is read there, nearly always of one page.

@@ -1,10 +1,12 @@
 //! The operands of an instruction: where they lie, and how they are read and written.
 #![tactic(auto, using(crate::proofs::Trees::row_rules))]
 
-ghost use Rattle.std.specs.Prelude.{◌≡◌, ◌*◌, ◌%◌, ◌^◌, ◌<◌};
+ghost use Rattle.std.specs.Prelude.{◌≡◌, ◌*◌, ◌%◌, ◌^◌, ◌<◌, IfSome, Ok, true};
 ghost use Rattle.xe_ctx.specs.Contract.{ℕ, false, IsTrue, is_size, IsOf, IsOperand, cpu_of, HasLeft, RunsWithin, DraftsWithin};
 ghost use Rattle.xe_base.specs.Registers.{next_rip};
 ghost use Rattle.xe_ctx.specs.Operand.{has_rex, size_by_opcode, operand_at, operand_of, reg_of, opcode_register, reads, writes, read_operand, read_for_write, write_operand};
+ghost use Rattle.xe_ctx.specs.Is.{Is};
+ghost use Rattle.xe_ctx.specs.View.{view};
 ghost use Rattle.xe_modrm.specs.Valid.{IsModRm};
 
 use crate::bus::Bus;
@@ -176,17 +178,25 @@ pub fn read_for_write<B: Bus, I: Intercepts>(
 
 /// The low bytes of a number.
 #[inline(always)]
-pub fn cut(value: u64, size: u8) -> u128
+pub fn low_bytes(value: u64, size: u8) -> u64
     requires { IsTrue (is_size size) }
     ensures { result ≡ value % 2 ^ (8 * size) }
 {
-    let value = match size {
+    match size {
         1 => value % (1 << 8),
         2 => value % (1 << 16),
         4 => value % (1 << 32),
         _ => value,
-    };
-    value as u128
+    }
+}
+
+/// The same, as a number to be stored.
+#[inline(always)]
+pub fn cut(value: u64, size: u8) -> u128
+    requires { IsTrue (is_size size) }
+    ensures { result ≡ value % 2 ^ (8 * size) }
+{
+    low_bytes(value, size) as u128
 }
 
 /// Writes the low bytes of a number to an operand: a register in the draft, or memory.
@@ -213,6 +223,74 @@ pub fn write_operand<B: Bus, I: Intercepts>(
         Operand::Memory(segment, offset) => {
             ctx.store(segment, offset, size as u32, cut(value, size))?;
             Ok(())
+        }
+    }
+}
+
+/// Reads an operand, where that is done at once.
+#[inline(always)]
+#[tactic(auto, using(crate::proofs::Trees::row_rules), unfolding(crate::specs::Operand::read_operand))]
+pub fn read_at_once<B: Bus, I: Intercepts>(
+    insn: &Insn,
+    ctx: &Ctx<B, I>,
+    operand: Operand,
+    size: u8,
+) -> Option<u64>
+    requires size { IsTrue (is_size size) }
+    requires register { IsOperand operand }
+    ensures { IfSome result (λ v. Is (read_operand insn.now (cpu_of ctx.now) operand size) (view B.sight I.hits ctx.now) (Ok v) (view B.sight I.hits ctx.now)) }
+{
+    match operand {
+        Operand::Register(register) => Some(read_register(insn, ctx.cpu(), size, register)),
+        Operand::Memory(segment, offset) => ctx.load_at_once(segment, offset, size),
+    }
+}
+
+/// Reads an operand that is written afterwards, where that is done at once.
+#[inline(always)]
+#[tactic(auto, using(crate::proofs::Trees::row_rules), unfolding(crate::specs::Operand::read_for_write))]
+pub fn read_for_write_at_once<B: Bus, I: Intercepts>(
+    insn: &Insn,
+    ctx: &Ctx<B, I>,
+    operand: Operand,
+    size: u8,
+) -> Option<u64>
+    requires size { IsTrue (is_size size) }
+    requires register { IsOperand operand }
+    ensures { IfSome result (λ v. Is (read_for_write insn.now (cpu_of ctx.now) operand size) (view B.sight I.hits ctx.now) (Ok v) (view B.sight I.hits ctx.now)) }
+{
+    match operand {
+        Operand::Register(register) => Some(read_register(insn, ctx.cpu(), size, register)),
+        Operand::Memory(segment, offset) => ctx.load_for_write_at_once(segment, offset, size),
+    }
+}
+
+/// Writes the low bytes of a number to an operand, where that is done at once, and says whether it
+/// was; else nothing changes.
+#[inline(always)]
+#[tactic(auto, using(crate::proofs::Trees::row_rules), unfolding(crate::specs::Operand::write_operand))]
+pub fn write_at_once<B: Bus, I: Intercepts>(
+    insn: &Insn,
+    ctx: &mut Ctx<B, I>,
+    cpu: &mut Cpu,
+    operand: Operand,
+    size: u8,
+    value: u64,
+) -> bool
+    requires ready { HasLeft B.sight ctx.old 0 8 }
+    requires size { IsTrue (is_size size) }
+    requires register { IsOperand operand }
+    ensures stays { result ≡ false → ctx.new ≡ ctx.old }
+    ensures draft_stays { result ≡ false → cpu.new ≡ cpu.old }
+    ensures done { result ≡ true → DraftsWithin B.sight I.hits (write_operand insn.now cpu.old operand size value) ctx.old (Ok tt) cpu.new ctx.new 0 8 }
+{
+    match operand {
+        Operand::Register(register) => {
+            write_register(insn, cpu, size, register, value);
+            true
+        }
+        Operand::Memory(segment, offset) => {
+            ctx.store_at_once(segment, offset, size, low_bytes(value, size))
         }
     }
 }

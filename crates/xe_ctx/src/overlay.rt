@@ -1,6 +1,6 @@
 //! The bytes of RAM that a step has changed, and the RAM as the step sees it.
 
-ghost use Rattle.std.specs.Prelude.{◌≡◌, ℕ, ◌+◌, ◌*◌, ◌<◌, ◌≤◌, ◌^◌, true, length, All, List};
+ghost use Rattle.std.specs.Prelude.{◌≡◌, ℕ, ◌+◌, ◌*◌, ◌<◌, ◌≤◌, ◌^◌, ◌↔◌, true, length, All, List, IsSome, IfSome};
 ghost use Rattle.xe_base.specs.Bytes.{num, le};
 ghost use Rattle.xe_base.specs.Ram.{Area, in_ram, bytes_of, put_bytes, AreRam};
 ghost use Rattle.xe_ctx.specs.Chunks.{is_size};
@@ -11,14 +11,14 @@ use crate::run::Run;
 use arrayvec::ArrayVec;
 use xe_mem::GuestMem;
 
-/// Reads bytes of the RAM as the step sees it: those that its stores changed, the oldest store first, over
-/// those of the RAM.
+/// Puts the bytes that the step's stores changed, the oldest store first, over those that were read of
+/// the RAM.
 #[inline(always)]
-pub(crate) fn load_patched(mem: &GuestMem, runs: &[Run], pa: u64, out: &mut [u8])
-    requires { AreRam mem.now pa (length out.old) }
+fn lay_over(mem: &GuestMem, runs: &[Run], pa: u64, out: &mut [u8])
+    requires ram { AreRam mem.now pa (length out.old) }
+    requires read { out.old ≡ bytes_of mem.now pa (length out.old) }
     ensures { out.new ≡ bytes_of (patched mem.now (expand runs.now)) pa (length out.old) }
 {
-    mem.load(pa, out);
     for run in runs {
         if run.meets(pa, out.len() as u64) {
             run.lay_over(pa, out);
@@ -26,27 +26,38 @@ pub(crate) fn load_patched(mem: &GuestMem, runs: &[Run], pa: u64, out: &mut [u8]
     }
 }
 
-/// The number that N bytes of the RAM are, as the step sees it. Their count is a constant, so that they are
-/// moved as one.
-#[inline]
-fn word<const N: usize>(mem: &GuestMem, runs: &[Run], pa: u64) -> u128
-    requires small { N ≤ 16 }
-    requires ram { AreRam mem.now pa N }
-    ensures is { result ≡ num (bytes_of (patched mem.now (expand runs.now)) pa N) }
-    ensures below { result < 2 ^ (8 * N) }
+/// Reads bytes of the RAM as the step sees it.
+#[inline(always)]
+pub(crate) fn load_patched(mem: &GuestMem, runs: &[Run], pa: u64, out: &mut [u8])
+    requires { AreRam mem.now pa (length out.old) }
+    ensures { out.new ≡ bytes_of (patched mem.now (expand runs.now)) pa (length out.old) }
 {
-    let mut bytes = [0; N];
-    load_patched(mem, runs, pa, &mut bytes);
-    number_of(&bytes)
+    mem.load(pa, out);
+    lay_over(mem, runs, pa, out);
 }
 
-/// The number that the bytes of an operand are, in the RAM as the step sees it.
+/// The number that N bytes of the RAM are, as the step sees it; none where one of them isn't RAM. Their
+/// count is a constant, so that they are moved as one.
+#[inline(always)]
+fn word<const N: usize>(mem: &GuestMem, runs: &[Run], pa: u64) -> Option<u128>
+    requires small { N ≤ 16 }
+    ensures present { IsSome result ↔ AreRam mem.now pa N }
+    ensures is { IfSome result (λ v. v ≡ num (bytes_of (patched mem.now (expand runs.now)) pa N)) }
+    ensures below { IfSome result (λ v. v < 2 ^ (8 * N)) }
+{
+    let mut bytes = mem.read::<N>(pa)?;
+    lay_over(mem, runs, pa, &mut bytes);
+    Some(number_of(&bytes))
+}
+
+/// The number that the bytes of an operand are, in the RAM as the step sees it; none where one of them
+/// isn't RAM.
 #[inline]
-pub(crate) fn number_at(mem: &GuestMem, runs: &[Run], pa: u64, n: usize) -> u128
+pub(crate) fn number_at(mem: &GuestMem, runs: &[Run], pa: u64, n: usize) -> Option<u128>
     requires size { is_size n ≡ true }
-    requires ram { AreRam mem.now pa n }
-    ensures is { result ≡ num (bytes_of (patched mem.now (expand runs.now)) pa n) }
-    ensures below { result < 2 ^ (8 * n) }
+    ensures present { IsSome result ↔ AreRam mem.now pa n }
+    ensures is { IfSome result (λ v. v ≡ num (bytes_of (patched mem.now (expand runs.now)) pa n)) }
+    ensures below { IfSome result (λ v. v < 2 ^ (8 * n)) }
 {
     match n {
         1 => word::<1>(mem, runs, pa),

@@ -61,13 +61,24 @@ impl Run {
         requires { AreRam mem.old self.now.at self.now.size }
         ensures { mem.new ≡ put_bytes mem.old self.now.at (le self.now.size self.now.value) }
     {
-        let all = all_bytes(self.value);
         match self.size {
-            1 => mem.store(self.at, &all[..1]),
-            2 => mem.store(self.at, &all[..2]),
-            4 => mem.store(self.at, &all[..4]),
-            8 => mem.store(self.at, &all[..8]),
-            _ => mem.store(self.at, &all),
+            1 => put_low(mem, self.at, self.value, 1),
+            2 => put_low(mem, self.at, self.value, 2),
+            4 => put_low(mem, self.at, self.value, 4),
+            8 => put_low(mem, self.at, self.value, 8),
+            _ => put_low(mem, self.at, self.value, 16),
         }
     }
+}
+
+/// The low bytes of a number go into the RAM. Each size makes the bytes for itself: bytes that several
+/// share would be made one by one.
+#[inline(always)]
+fn put_low(mem: &mut GuestMem, at: u64, value: u128, n: usize)
+    requires small { n ≤ 16 }
+    requires ram { AreRam mem.old at n }
+    ensures { mem.new ≡ put_bytes mem.old at (le n value) }
+{
+    let all = all_bytes(value);
+    mem.store(at, &all[..n]);
 }

@@ -1,13 +1,15 @@
 //! The stack (SDM volume 1, "Stacks").
 #![tactic(auto, using(crate::proofs::Trees::row_rules))]
 
-ghost use Rattle.std.specs.Prelude.{◌≡◌, ◌<◌, ◌≤◌, ◌*◌, ◌%◌, ◌^◌};
+ghost use Rattle.std.specs.Prelude.{◌≡◌, ◌<◌, ◌≤◌, ◌*◌, ◌%◌, ◌^◌, IfSome, Ok, true, false};
 ghost use Rattle.xe_ctx.specs.Contract.{IsTrue, is_size, HasLeft, RunsWithin, DraftsWithin};
+ghost use Rattle.xe_ctx.specs.Is.{Is};
+ghost use Rattle.xe_ctx.specs.View.{view};
 ghost use Rattle.xe_ctx.specs.Stack.{stack_size, stack_offset, stack_pointer, stack_above, stack_below, with_stack_pointer, released, stack_load, push};
 
 use crate::bus::Bus;
 use crate::ctx::Ctx;
-use crate::operand::cut;
+use crate::operand::{cut, low_bytes};
 use crate::stop::Stop;
 use xe_base::{Cpu, SegName};
 use xe_icpt::Intercepts;
@@ -121,4 +123,43 @@ pub fn push<B: Bus, I: Intercepts>(
     ctx.store(SegName::Ss, offset, n as u32, cut(value, n))?;
     set_stack_pointer(cpu, offset);
     Ok(())
+}
+
+/// What [`stack_load`] reads, where that is done at once.
+#[inline(always)]
+#[tactic(auto, using(crate::proofs::Trees::row_rules), unfolding(crate::specs::Stack::stack_load))]
+pub fn stack_load_at_once<B: Bus, I: Intercepts>(
+    ctx: &Ctx<B, I>,
+    cpu: &Cpu,
+    above: u64,
+    n: u8,
+) -> Option<u64>
+    requires { IsTrue (is_size n) }
+    ensures { IfSome result (λ v. Is (stack_load cpu.now above n) (view B.sight I.hits ctx.now) (Ok v) (view B.sight I.hits ctx.now)) }
+{
+    let offset = stack_above(cpu, stack_pointer(cpu), above);
+    ctx.load_at_once(SegName::Ss, offset, n)
+}
+
+/// Does what [`push`] does, where that is done at once, and says whether it did; else nothing changes.
+#[inline(always)]
+#[tactic(auto, using(crate::proofs::Trees::row_rules), unfolding(crate::specs::Stack::push))]
+pub fn push_at_once<B: Bus, I: Intercepts>(
+    ctx: &mut Ctx<B, I>,
+    cpu: &mut Cpu,
+    n: u8,
+    value: u64,
+) -> bool
+    requires ready { HasLeft B.sight ctx.old 0 8 }
+    requires size { IsTrue (is_size n) }
+    ensures stays { result ≡ false → ctx.new ≡ ctx.old }
+    ensures draft_stays { result ≡ false → cpu.new ≡ cpu.old }
+    ensures done { result ≡ true → DraftsWithin B.sight I.hits (push cpu.old n value) ctx.old (Ok tt) cpu.new ctx.new 0 8 }
+{
+    let offset = stack_below(cpu, stack_pointer(cpu), n as u64);
+    if !ctx.store_at_once(SegName::Ss, offset, n, low_bytes(value, n)) {
+        return false;
+    }
+    set_stack_pointer(cpu, offset);
+    true
 }

@@ -52,10 +52,8 @@ fn entry_in(mem: &GuestMem, runs: &[Run], pa: u64, size: u8) -> Option<u64>
     requires { (size ≡ 4) ⊎ (size ≡ 8) }
     ensures { result ≡ entry_of (patched mem.now (expand runs.now)) pa size }
 {
-    if !mem.is_ram(pa, size as u64) {
-        return None;
-    }
-    Some(number_at(mem, runs, pa, size as usize) as u64)
+    let entry = number_at(mem, runs, pa, size as usize)?;
+    Some(entry as u64)
 }
 
 /// What is set in an entry: accessed, and dirty in the last one for a write.
