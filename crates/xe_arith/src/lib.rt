@@ -18,4 +18,4 @@ mod tests;
 mod unary;
 
 pub use laws::{rows_change_states_calmly, rows_keep_states_valid, rows_take_little};
-pub use rows::{exec, exec_into, is_row};
+pub use rows::{exec, exec_at_once, exec_into, is_row};

@@ -3,19 +3,19 @@
 
 ghost use Rattle.xe_base.specs.State.{Valid};
 ghost use Rattle.std.specs.Prelude.{◌≡◌};
-ghost use Rattle.xe_ctx.specs.Contract.{ℕ, true, IfOk, IsOf, HasLeft, IsReady, Runs, Finishes, cpu_of};
+ghost use Rattle.xe_ctx.specs.Contract.{ℕ, true, IfOk, IsOf, HasLeft, IsReady, Runs, Finishes, AtOnce, cpu_of};
 ghost use Rattle.xe_ctx.specs.Finishes.{IsSound};
 ghost use Rattle.xe_ctx.specs.Flow.{outcome};
 ghost use Rattle.xe_ctx.specs.Runs.{finished};
 ghost use Rattle.xe_arith.specs.Rows.{is_row, row_of};
 
-use crate::alu::{alu, cmp, test};
+use crate::alu::{alu, alu_at_once, cmp, cmp_at_once, test, test_at_once};
 use crate::bit::{bt, change_bit, scan};
 use crate::decimal::decimal;
 use crate::exchange::{cmpxchg, cmpxchg8b, xadd};
 use crate::multiply::{div, imul, mul};
-use crate::shift::{double_shift, shift};
-use crate::unary::unary;
+use crate::shift::{double_shift, shift, shift_at_once};
+use crate::unary::{unary, unary_at_once};
 use xe_base::Cpu;
 use xe_ctx::{Bus, Ctx, End, Flow, Stop};
 use xe_flags::{AluOp, BcdOp, BitOp, ScanOp, ShiftOp, UnOp};
@@ -129,6 +129,39 @@ fn run_row<B: Bus, I: Intercepts>(
         Row::Cmpxchg => cmpxchg(insn, ctx, cpu),
         Row::Cmpxchg8b => cmpxchg8b(insn, ctx, cpu),
         _ => unreachable!(),
+    }
+}
+
+/// Does an instruction of one of this crate's rows, where that is done at once, and says whether it did;
+/// else nothing changes, and [`exec_into`] does it.
+#[inline(always)]
+pub fn exec_at_once<B: Bus, I: Intercepts>(insn: &Insn, ctx: &mut Ctx<B, I>, cpu: &mut Cpu) -> bool
+    requires row { is_row insn.now.row ≡ true }
+    requires ready { IsReady B.sight insn.now ctx.old cpu.old 12 38 }
+    ensures { AtOnce B.sight I.hits (row_of insn.now (cpu_of ctx.old)) ctx.old cpu.old result ctx.new cpu.new }
+{
+    match insn.row {
+        Row::Add => alu_at_once(AluOp::Add, insn, ctx, cpu),
+        Row::Or => alu_at_once(AluOp::Or, insn, ctx, cpu),
+        Row::Adc => alu_at_once(AluOp::Adc, insn, ctx, cpu),
+        Row::Sbb => alu_at_once(AluOp::Sbb, insn, ctx, cpu),
+        Row::And => alu_at_once(AluOp::And, insn, ctx, cpu),
+        Row::Sub => alu_at_once(AluOp::Sub, insn, ctx, cpu),
+        Row::Xor => alu_at_once(AluOp::Xor, insn, ctx, cpu),
+        Row::Cmp => cmp_at_once(insn, ctx, cpu),
+        Row::Test => test_at_once(insn, ctx, cpu),
+        Row::Inc => unary_at_once(UnOp::Inc, insn, ctx, cpu),
+        Row::Dec => unary_at_once(UnOp::Dec, insn, ctx, cpu),
+        Row::Not => unary_at_once(UnOp::Not, insn, ctx, cpu),
+        Row::Neg => unary_at_once(UnOp::Neg, insn, ctx, cpu),
+        Row::Rol => shift_at_once(ShiftOp::Rol, insn, ctx, cpu),
+        Row::Ror => shift_at_once(ShiftOp::Ror, insn, ctx, cpu),
+        Row::Rcl => shift_at_once(ShiftOp::Rcl, insn, ctx, cpu),
+        Row::Rcr => shift_at_once(ShiftOp::Rcr, insn, ctx, cpu),
+        Row::Shl => shift_at_once(ShiftOp::Shl, insn, ctx, cpu),
+        Row::Shr => shift_at_once(ShiftOp::Shr, insn, ctx, cpu),
+        Row::Sar => shift_at_once(ShiftOp::Sar, insn, ctx, cpu),
+        _ => false,
     }
 }
 

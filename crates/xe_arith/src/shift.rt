@@ -2,14 +2,15 @@
 #![tactic(auto, using(xe_ctx::proofs::Trees::row_rules))]
 
 ghost use Rattle.std.specs.Prelude.{◌≡◌};
-ghost use Rattle.xe_ctx.specs.Contract.{ℕ, IsReady, Finishes, cpu_of};
+ghost use Rattle.xe_ctx.specs.Contract.{ℕ, IsReady, Finishes, AtOnce, cpu_of};
 ghost use Rattle.xe_ctx.specs.Operand.{reads, cx};
 ghost use Rattle.xe_arith.specs.Shift.{is_by_immediate, is_by_one, shift_count, shift_row, double_is_by_immediate, double_count, double_row};
 
 use crate::sized::{double_at, shift_at};
 use xe_base::Cpu;
 use xe_ctx::operand::{
-    CX, done, operand_of, read_for_write, read_register, reg_of, size_by_opcode, write_operand,
+    CX, done, operand_of, read_for_write, read_for_write_at_once, read_register, reg_of,
+    size_by_opcode, write_at_once, write_operand,
 };
 use xe_ctx::{Bus, Ctx, End, Stop};
 use xe_flags::ShiftOp;
@@ -17,6 +18,7 @@ use xe_icpt::Intercepts;
 use xe_opmap::Insn;
 
 /// Whether a shift is by an immediate byte: opcodes C0 and C1.
+#[inline(always)]
 fn is_by_immediate(opcode: u16) -> bool
     ensures { result ≡ is_by_immediate opcode }
 {
@@ -24,6 +26,7 @@ fn is_by_immediate(opcode: u16) -> bool
 }
 
 /// Whether a shift is by one: opcodes D0 and D1.
+#[inline(always)]
 fn is_by_one(opcode: u16) -> bool
     ensures { result ≡ is_by_one opcode }
 {
@@ -31,6 +34,7 @@ fn is_by_one(opcode: u16) -> bool
 }
 
 /// The count of a shift: an immediate byte, one, or CL.
+#[inline(always)]
 fn shift_count(insn: &Insn, cpu: &Cpu) -> u8
     ensures { result ≡ shift_count insn.now cpu.now }
 {
@@ -45,6 +49,7 @@ fn shift_count(insn: &Insn, cpu: &Cpu) -> u8
 
 /// CL.
 #[tactic(auto, unfolding(xe_base::specs::Registers::register_value))]
+#[inline(always)]
 fn read_count(insn: &Insn, cpu: &Cpu) -> u8
     ensures { result ≡ reads insn.now cpu.now 1 cx }
 {
@@ -69,6 +74,34 @@ pub fn shift<B: Bus, I: Intercepts>(
     cpu.rflags = flags;
     write_operand(insn, ctx, cpu, target, size, value)?;
     Ok(done(insn, cpu))
+}
+
+/// ROL, ROR, RCL, RCR, SHL, SHR and SAR, where they are done at once.
+#[inline(always)]
+pub(crate) fn shift_at_once<B: Bus, I: Intercepts>(
+    op: ShiftOp,
+    insn: &Insn,
+    ctx: &mut Ctx<B, I>,
+    cpu: &mut Cpu,
+) -> bool
+    requires { IsReady B.sight insn.now ctx.old cpu.old 10 36 }
+    ensures { AtOnce B.sight I.hits (shift_row op insn.now (cpu_of ctx.old)) ctx.old cpu.old result ctx.new cpu.new }
+{
+    let size = size_by_opcode(insn, cpu);
+    let target = operand_of(insn, cpu);
+    let count = shift_count(insn, cpu);
+    let Some(a) = read_for_write_at_once(insn, ctx, target, size) else {
+        return false;
+    };
+    let before = cpu.rflags;
+    let (value, flags) = shift_at(op, size, a, count, before);
+    cpu.rflags = flags;
+    if !write_at_once(insn, ctx, cpu, target, size, value) {
+        cpu.rflags = before;
+        return false;
+    }
+    cpu.advance(insn.len);
+    true
 }
 
 /// Whether a double shift is by an immediate byte: opcodes 0F A4 and 0F AC.

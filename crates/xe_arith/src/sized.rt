@@ -19,6 +19,7 @@ use xe_flags::{
     AluOp, BitOp, ScanOp, ShiftOp, UnOp, alu, bit, div, double_shift, mul, scan, shift, unary,
 };
 
+#[inline]
 fn alu_in<const W: u32>(op: AluOp, a: u64, b: u64, flags: u64) -> (u64, u64)
     requires { IsWidth W }
     ensures word { result.0 ≡ alu_word W op (a % 2 ^ W) (b % 2 ^ W) flags }
@@ -29,6 +30,7 @@ fn alu_in<const W: u32>(op: AluOp, a: u64, b: u64, flags: u64) -> (u64, u64)
 }
 
 /// The word and the flags of an operation on the low bytes of two numbers.
+#[inline]
 pub fn alu_at(op: AluOp, size: u8, a: u64, b: u64, flags: u64) -> (u64, u64)
     requires { IsTrue (is_size size) }
     ensures word { result.0 ≡ alu_word (8 * size) op (low size a) (low size b) flags }
@@ -42,6 +44,7 @@ pub fn alu_at(op: AluOp, size: u8, a: u64, b: u64, flags: u64) -> (u64, u64)
     }
 }
 
+#[inline]
 fn unary_in<const W: u32>(op: UnOp, a: u64, flags: u64) -> (u64, u64)
     requires { IsWidth W }
     ensures word { result.0 ≡ unary_word W op (a % 2 ^ W) }
@@ -52,6 +55,7 @@ fn unary_in<const W: u32>(op: UnOp, a: u64, flags: u64) -> (u64, u64)
 }
 
 /// The word and the flags of an operation on the low bytes of a number.
+#[inline]
 pub fn unary_at(op: UnOp, size: u8, a: u64, flags: u64) -> (u64, u64)
     requires { IsTrue (is_size size) }
     ensures word { result.0 ≡ unary_word (8 * size) op (low size a) }
@@ -65,6 +69,7 @@ pub fn unary_at(op: UnOp, size: u8, a: u64, flags: u64) -> (u64, u64)
     }
 }
 
+#[inline]
 fn shift_in<const W: u32>(op: ShiftOp, a: u64, count: u8, flags: u64) -> (u64, u64)
     requires { IsWidth W }
     ensures word { result.0 ≡ shift_word W op (a % 2 ^ W) count flags }
@@ -75,6 +80,7 @@ fn shift_in<const W: u32>(op: ShiftOp, a: u64, count: u8, flags: u64) -> (u64, u
 }
 
 /// The word and the flags of a shift of the low bytes of a number.
+#[inline]
 pub fn shift_at(op: ShiftOp, size: u8, a: u64, count: u8, flags: u64) -> (u64, u64)
     requires { IsTrue (is_size size) }
     ensures word { result.0 ≡ shift_word (8 * size) op (low size a) count flags }

@@ -1,13 +1,15 @@
 //! Near jumps, calls and returns.
 #![tactic(auto, using(xe_ctx::proofs::Trees::row_rules))]
 
-ghost use Rattle.std.specs.Prelude.{◌≡◌};
-ghost use Rattle.xe_ctx.specs.Contract.{ℕ, false, IsOf, HasLeft, IsReady, RunsWithin, Finishes, cpu_of};
+ghost use Rattle.std.specs.Prelude.{◌≡◌, IfSome, Ok, true};
+ghost use Rattle.xe_ctx.specs.Contract.{ℕ, false, IsOf, HasLeft, IsReady, RunsWithin, Finishes, AtOnce, cpu_of};
+ghost use Rattle.xe_ctx.specs.Is.{Is};
+ghost use Rattle.xe_ctx.specs.View.{view};
 ghost use Rattle.xe_flow.specs.Branch.{can_go_to, near, near_target, jump_if, jcc_row, destination, jmp_row, call_row, ret_row};
 
 use xe_base::Cpu;
-use xe_ctx::operand::{cut, done, operand_of, read_operand};
-use xe_ctx::stack::{push as push_number, release, stack_load};
+use xe_ctx::operand::{done, low_bytes, operand_of, read_at_once, read_operand};
+use xe_ctx::stack::{push as push_number, push_at_once, release, stack_load, stack_load_at_once};
 use xe_ctx::{Bus, Ctx, End, Stop};
 use xe_flags::condition;
 use xe_icpt::Intercepts;
@@ -28,15 +30,17 @@ fn can_go_to<B: Bus, I: Intercepts>(ctx: &mut Ctx<B, I>, offset: u64) -> Result<
 }
 
 /// The low bytes of an offset, as many as the operand has.
+#[inline(always)]
 fn near(insn: &Insn, cpu: &Cpu, offset: u64) -> u64
     requires { IsOf cpu.now insn.now }
     ensures { result ≡ near insn.now offset }
 {
-    cut(offset, insn.opsize) as u64
+    low_bytes(offset, insn.opsize)
 }
 
 /// Where a jump by an immediate goes.
 #[tactic(auto, using(xe_ctx::proofs::Trees::row_rules, crate::proofs::Cuts::sum_cut))]
+#[inline(always)]
 fn near_target(insn: &Insn, cpu: &Cpu) -> u64
     requires { IsOf cpu.now insn.now }
     ensures { result ≡ near_target insn.now cpu.now }
@@ -151,4 +155,119 @@ pub fn ret<B: Bus, I: Intercepts>(
     can_go_to(ctx, target)?;
     release(cpu, insn.opsize as u64 + insn.imm % (1 << 16));
     Ok(jump(cpu, target))
+}
+
+/// Whether code can go on at this offset of the code segment, where it needs no exception to say so.
+#[inline(always)]
+#[tactic(auto, using(xe_ctx::proofs::Trees::row_rules), unfolding(crate::specs::Branch::can_go_to))]
+fn can_go_at_once<B: Bus, I: Intercepts>(ctx: &Ctx<B, I>, offset: u64) -> bool
+    ensures { result ≡ true → Is (can_go_to (cpu_of ctx.now) offset) (view B.sight I.hits ctx.now) (Ok tt) (view B.sight I.hits ctx.now) }
+{
+    let cpu = ctx.cpu();
+    check_target(cpu, &cpu.cs, offset).is_ok()
+}
+
+/// Jcc, where it is done at once.
+#[inline(always)]
+pub(crate) fn jcc_at_once<B: Bus, I: Intercepts>(
+    insn: &Insn,
+    ctx: &mut Ctx<B, I>,
+    cpu: &mut Cpu,
+) -> bool
+    requires { IsReady B.sight insn.now ctx.old cpu.old 0 0 }
+    ensures { AtOnce B.sight I.hits (jcc_row insn.now (cpu_of ctx.old)) ctx.old cpu.old result ctx.new cpu.new }
+{
+    if !condition((insn.opcode % 16) as u8, cpu.rflags) {
+        cpu.advance(insn.len);
+        return true;
+    }
+    let target = near_target(insn, ctx.cpu());
+    if !can_go_at_once(ctx, target) {
+        return false;
+    }
+    cpu.rip = target;
+    true
+}
+
+/// Where CALL and JMP go, where that is found at once.
+#[inline(always)]
+#[tactic(auto, using(xe_ctx::proofs::Trees::row_rules), unfolding(crate::specs::Branch::destination))]
+fn destination_at_once<B: Bus, I: Intercepts>(insn: &Insn, ctx: &Ctx<B, I>) -> Option<u64>
+    requires { IsOf (cpu_of ctx.now) insn.now }
+    ensures { IfSome result (λ v. Is (destination insn.now (cpu_of ctx.now)) (view B.sight I.hits ctx.now) (Ok v) (view B.sight I.hits ctx.now)) }
+{
+    if insn.modrm.is_some() {
+        let operand = operand_of(insn, ctx.cpu());
+        read_at_once(insn, ctx, operand, insn.opsize)
+    } else {
+        Some(near_target(insn, ctx.cpu()))
+    }
+}
+
+/// JMP, where it is done at once.
+#[inline(always)]
+pub(crate) fn jmp_at_once<B: Bus, I: Intercepts>(
+    insn: &Insn,
+    ctx: &mut Ctx<B, I>,
+    cpu: &mut Cpu,
+) -> bool
+    requires { IsReady B.sight insn.now ctx.old cpu.old 8 28 }
+    ensures { AtOnce B.sight I.hits (jmp_row insn.now (cpu_of ctx.old)) ctx.old cpu.old result ctx.new cpu.new }
+{
+    let Some(offset) = destination_at_once(insn, ctx) else {
+        return false;
+    };
+    let target = near(insn, cpu, offset);
+    if !can_go_at_once(ctx, target) {
+        return false;
+    }
+    cpu.rip = target;
+    true
+}
+
+/// CALL, where it is done at once.
+#[inline(always)]
+pub(crate) fn call_at_once<B: Bus, I: Intercepts>(
+    insn: &Insn,
+    ctx: &mut Ctx<B, I>,
+    cpu: &mut Cpu,
+) -> bool
+    requires { IsReady B.sight insn.now ctx.old cpu.old 8 28 }
+    ensures { AtOnce B.sight I.hits (call_row insn.now (cpu_of ctx.old)) ctx.old cpu.old result ctx.new cpu.new }
+{
+    let Some(offset) = destination_at_once(insn, ctx) else {
+        return false;
+    };
+    let target = near(insn, cpu, offset);
+    let next = cpu.next_rip(insn.len);
+    if !can_go_at_once(ctx, target) {
+        return false;
+    }
+    if !push_at_once(ctx, cpu, insn.opsize, next) {
+        return false;
+    }
+    cpu.rip = target;
+    true
+}
+
+/// RET, where it is done at once.
+#[inline(always)]
+pub(crate) fn ret_at_once<B: Bus, I: Intercepts>(
+    insn: &Insn,
+    ctx: &mut Ctx<B, I>,
+    cpu: &mut Cpu,
+) -> bool
+    requires { IsReady B.sight insn.now ctx.old cpu.old 8 28 }
+    ensures { AtOnce B.sight I.hits (ret_row insn.now (cpu_of ctx.old)) ctx.old cpu.old result ctx.new cpu.new }
+{
+    let Some(offset) = stack_load_at_once(ctx, cpu, 0, insn.opsize) else {
+        return false;
+    };
+    let target = near(insn, cpu, offset);
+    if !can_go_at_once(ctx, target) {
+        return false;
+    }
+    release(cpu, insn.opsize as u64 + insn.imm % (1 << 16));
+    cpu.rip = target;
+    true
 }

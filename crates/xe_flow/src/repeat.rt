@@ -7,7 +7,7 @@ ghost use Rattle.xe_flow.specs.Repeat.{count, count_down, with_count, holds, loo
 
 use crate::branch::jump_if;
 use xe_base::Cpu;
-use xe_ctx::operand::{CX, cut};
+use xe_ctx::operand::{CX, low_bytes};
 use xe_ctx::{Bus, Ctx, End, Stop};
 use xe_flags::status_of;
 use xe_icpt::Intercepts;
@@ -26,7 +26,7 @@ fn count_down(insn: &Insn, cpu: &Cpu) -> u64
     requires { IsOf cpu.now insn.now }
     ensures { result ≡ count_down insn.now cpu.now }
 {
-    cut(count(insn, cpu).wrapping_sub(1), insn.adsize) as u64
+    low_bytes(count(insn, cpu).wrapping_sub(1), insn.adsize)
 }
 
 /// Writes the count.

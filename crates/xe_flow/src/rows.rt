@@ -3,18 +3,18 @@
 
 ghost use Rattle.std.specs.Prelude.{◌≡◌};
 ghost use Rattle.xe_base.specs.State.{Valid};
-ghost use Rattle.xe_ctx.specs.Contract.{ℕ, true, IfOk, IsOf, HasLeft, IsReady, Runs, Finishes, cpu_of};
+ghost use Rattle.xe_ctx.specs.Contract.{ℕ, true, IfOk, IsOf, HasLeft, IsReady, Runs, Finishes, AtOnce, cpu_of};
 ghost use Rattle.xe_ctx.specs.Finishes.{IsSound};
 ghost use Rattle.xe_ctx.specs.Flow.{outcome};
 ghost use Rattle.xe_ctx.specs.Runs.{finished};
 ghost use Rattle.xe_flow.specs.Rows.{is_row, row_of};
 
-use crate::branch::{call, jcc, jmp, ret};
+use crate::branch::{call, call_at_once, jcc, jcc_at_once, jmp, jmp_at_once, ret, ret_at_once};
 use crate::flags::{cli, popf, pushf, sti};
 use crate::frame::{enter, leave};
 use crate::interrupt::{int, int3, into};
 use crate::repeat::{jcxz, repeat};
-use crate::stack::{pop, popa, push, pusha, pushseg};
+use crate::stack::{pop, popa, push, push_row_at_once, pusha, pushseg};
 use xe_base::Cpu;
 use xe_ctx::{Bus, Ctx, End, Flow, Stop};
 use xe_icpt::Intercepts;
@@ -87,6 +87,24 @@ fn run_row<B: Bus, I: Intercepts>(
         Row::Int => int(insn, ctx, cpu),
         Row::Into => into(insn, ctx, cpu),
         _ => unreachable!(),
+    }
+}
+
+/// Does an instruction of one of this crate's rows, where that is done at once, and says whether it did;
+/// else nothing changes, and [`exec_into`] does it.
+#[inline(always)]
+pub fn exec_at_once<B: Bus, I: Intercepts>(insn: &Insn, ctx: &mut Ctx<B, I>, cpu: &mut Cpu) -> bool
+    requires row { is_row insn.now.row ≡ true }
+    requires ready { IsReady B.sight insn.now ctx.old cpu.old 248 886 }
+    ensures { AtOnce B.sight I.hits (row_of insn.now (cpu_of ctx.old)) ctx.old cpu.old result ctx.new cpu.new }
+{
+    match insn.row {
+        Row::Push => push_row_at_once(insn, ctx, cpu),
+        Row::Call => call_at_once(insn, ctx, cpu),
+        Row::Jmp => jmp_at_once(insn, ctx, cpu),
+        Row::Ret => ret_at_once(insn, ctx, cpu),
+        Row::Jcc => jcc_at_once(insn, ctx, cpu),
+        _ => false,
     }
 }
 

@@ -1,16 +1,18 @@
 //! Numbers on the stack.
 #![tactic(auto, using(xe_ctx::proofs::Trees::row_rules))]
 
-ghost use Rattle.std.specs.Prelude.{◌≡◌, ◌<◌};
-ghost use Rattle.xe_ctx.specs.Contract.{ℕ, IsTrue, is_size, IsOf, IsOperand, HasLeft, IsReady, RunsWithin, Finishes, DraftsWithin, cpu_of};
+ghost use Rattle.std.specs.Prelude.{◌≡◌, ◌<◌, IfSome, Ok};
+ghost use Rattle.xe_ctx.specs.Contract.{ℕ, IsTrue, is_size, IsOf, IsOperand, HasLeft, IsReady, RunsWithin, Finishes, DraftsWithin, AtOnce, cpu_of};
+ghost use Rattle.xe_ctx.specs.Is.{Is};
+ghost use Rattle.xe_ctx.specs.View.{view};
 ghost use Rattle.xe_flow.specs.Stack.{is_by_opcode, stack_operand, is_immediate, pushed_value, push_row, pop_row, segment_named, pushed_segment, pushseg_row, push_pair, pusha_row, pop_to, pop_pair, popa_row};
 
 use xe_base::{Cpu, SegName};
 use xe_ctx::operand::{
-    AX, BX, CX, DX, Operand, done, opcode_register, operand_of, read_operand, read_register,
-    write_operand, write_register,
+    AX, BX, CX, DX, Operand, done, opcode_register, operand_of, read_at_once, read_operand,
+    read_register, write_operand, write_register,
 };
-use xe_ctx::stack::{BP, SP, push as push_number, release, stack_load};
+use xe_ctx::stack::{BP, SP, push as push_number, push_at_once, release, stack_load};
 use xe_ctx::{Bus, Ctx, End, Stop};
 use xe_icpt::Intercepts;
 use xe_opmap::Insn;
@@ -21,6 +23,7 @@ const SI: u8 = 6;
 const DI: u8 = 7;
 
 /// Whether the opcode names the register: 50 to 5F.
+#[inline(always)]
 fn is_by_opcode(opcode: u16) -> bool
     ensures { result ≡ is_by_opcode opcode }
 {
@@ -28,6 +31,7 @@ fn is_by_opcode(opcode: u16) -> bool
 }
 
 /// The operand of PUSH and POP: the register that the opcode names, or E.
+#[inline(always)]
 fn stack_operand(insn: &Insn, cpu: &Cpu) -> Operand
     requires { IsOf cpu.now insn.now }
     ensures value { result ≡ stack_operand insn.now cpu.now }
@@ -41,6 +45,7 @@ fn stack_operand(insn: &Insn, cpu: &Cpu) -> Operand
 }
 
 /// Whether PUSH has an immediate: 68 and 6A.
+#[inline(always)]
 fn is_immediate(opcode: u16) -> bool
     ensures { result ≡ is_immediate opcode }
 {
@@ -218,4 +223,39 @@ pub fn popa<B: Bus, I: Intercepts>(
     pop_pair(insn, ctx, cpu, BX, DX)?;
     pop_pair(insn, ctx, cpu, CX, AX)?;
     Ok(done(insn, cpu))
+}
+
+/// The number that PUSH pushes, where it is read at once.
+#[inline(always)]
+#[tactic(auto, using(xe_ctx::proofs::Trees::row_rules), unfolding(crate::specs::Stack::pushed_value))]
+fn pushed_at_once<B: Bus, I: Intercepts>(insn: &Insn, ctx: &Ctx<B, I>) -> Option<u64>
+    requires { IsOf (cpu_of ctx.now) insn.now }
+    ensures { IfSome result (λ v. Is (pushed_value insn.now (cpu_of ctx.now)) (view B.sight I.hits ctx.now) (Ok v) (view B.sight I.hits ctx.now)) }
+{
+    if is_immediate(insn.opcode) {
+        Some(insn.imm)
+    } else {
+        let operand = stack_operand(insn, ctx.cpu());
+        read_at_once(insn, ctx, operand, insn.opsize)
+    }
+}
+
+/// PUSH, where it is done at once.
+#[inline(always)]
+pub(crate) fn push_row_at_once<B: Bus, I: Intercepts>(
+    insn: &Insn,
+    ctx: &mut Ctx<B, I>,
+    cpu: &mut Cpu,
+) -> bool
+    requires { IsReady B.sight insn.now ctx.old cpu.old 8 28 }
+    ensures { AtOnce B.sight I.hits (push_row insn.now (cpu_of ctx.old)) ctx.old cpu.old result ctx.new cpu.new }
+{
+    let Some(value) = pushed_at_once(insn, ctx) else {
+        return false;
+    };
+    if !push_at_once(ctx, cpu, insn.opsize, value) {
+        return false;
+    }
+    cpu.advance(insn.len);
+    true
 }

@@ -2,13 +2,13 @@
 #![tactic(auto, using(xe_ctx::proofs::Trees::row_rules))]
 
 ghost use Rattle.std.specs.Prelude.{◌≡◌, ◌/◌, ◌%◌, ◌^◌};
-ghost use Rattle.xe_ctx.specs.Contract.{ℕ, IsTrue, is_size, IsOf, IsReady, Finishes, cpu_of};
+ghost use Rattle.xe_ctx.specs.Contract.{ℕ, IsTrue, is_size, IsOf, IsReady, Finishes, AtOnce, cpu_of};
 ghost use Rattle.xe_base.specs.Words.{IsWidth, signed, wrapped};
 ghost use Rattle.xe_move.specs.Extend.{sign_extended, cbw_row, sign_fill, cwd_row, is_movsxd, is_from_byte, narrow_size, movzx_row, movsx_row};
 
 use xe_base::{Cpu, Word};
 use xe_ctx::operand::{
-    AX, DX, done, operand_of, read_operand, read_register, reg_of, write_register,
+    AX, DX, done, operand_of, read_at_once, read_operand, read_register, reg_of, write_register,
 };
 use xe_ctx::{Bus, Ctx, End, Stop};
 use xe_icpt::Intercepts;
@@ -93,6 +93,7 @@ pub fn cwd<B: Bus, I: Intercepts>(
 }
 
 /// Whether this is MOVSXD: 63.
+#[inline(always)]
 fn is_movsxd(opcode: u16) -> bool
     ensures { result ≡ is_movsxd opcode }
 {
@@ -100,6 +101,7 @@ fn is_movsxd(opcode: u16) -> bool
 }
 
 /// Whether a byte is made wider, and not a word: 0F B6 and 0F BE.
+#[inline(always)]
 fn is_from_byte(opcode: u16) -> bool
     ensures { result ≡ is_from_byte opcode }
 {
@@ -107,6 +109,7 @@ fn is_from_byte(opcode: u16) -> bool
 }
 
 /// The size of the operand that is made wider.
+#[inline(always)]
 fn narrow_size(insn: &Insn) -> u8
     ensures value { result ≡ narrow_size insn.now }
     ensures size { IsTrue (is_size result) }
@@ -150,4 +153,46 @@ pub fn movsx<B: Bus, I: Intercepts>(
     let wide = sign_extended(size, value);
     write_register(insn, cpu, insn.opsize, register, wide);
     Ok(done(insn, cpu))
+}
+
+/// MOVZX, where it is done at once.
+#[inline(always)]
+pub(crate) fn movzx_at_once<B: Bus, I: Intercepts>(
+    insn: &Insn,
+    ctx: &mut Ctx<B, I>,
+    cpu: &mut Cpu,
+) -> bool
+    requires { IsReady B.sight insn.now ctx.old cpu.old 10 36 }
+    ensures { AtOnce B.sight I.hits (movzx_row insn.now (cpu_of ctx.old)) ctx.old cpu.old result ctx.new cpu.new }
+{
+    let register = reg_of(insn, cpu);
+    let operand = operand_of(insn, cpu);
+    let Some(value) = read_at_once(insn, ctx, operand, narrow_size(insn)) else {
+        return false;
+    };
+    write_register(insn, cpu, insn.opsize, register, value);
+    cpu.advance(insn.len);
+    true
+}
+
+/// MOVSX and MOVSXD, where they are done at once.
+#[inline(always)]
+pub(crate) fn movsx_at_once<B: Bus, I: Intercepts>(
+    insn: &Insn,
+    ctx: &mut Ctx<B, I>,
+    cpu: &mut Cpu,
+) -> bool
+    requires { IsReady B.sight insn.now ctx.old cpu.old 10 36 }
+    ensures { AtOnce B.sight I.hits (movsx_row insn.now (cpu_of ctx.old)) ctx.old cpu.old result ctx.new cpu.new }
+{
+    let size = narrow_size(insn);
+    let register = reg_of(insn, cpu);
+    let operand = operand_of(insn, cpu);
+    let Some(value) = read_at_once(insn, ctx, operand, size) else {
+        return false;
+    };
+    let wide = sign_extended(size, value);
+    write_register(insn, cpu, insn.opsize, register, wide);
+    cpu.advance(insn.len);
+    true
 }

@@ -2,22 +2,23 @@
 #![tactic(auto, using(xe_ctx::proofs::Trees::row_rules))]
 
 ghost use Rattle.std.specs.Prelude.{◌≡◌, ◌<◌};
-ghost use Rattle.xe_ctx.specs.Contract.{ℕ, IsTrue, is_size, IsOf, IsOperand, IsReady, Finishes, cpu_of};
+ghost use Rattle.xe_ctx.specs.Contract.{ℕ, IsTrue, is_size, IsOf, IsOperand, IsReady, Finishes, AtOnce, cpu_of};
 ghost use Rattle.xe_opmap.specs.Encoding.{IsSize};
 ghost use Rattle.xe_move.specs.Moves.{is_to_e, is_to_g, is_from_address, is_to_address, is_to_named_register, names_byte_register, move_size, at_address, move_target, move_source, mov_row, offset_of, lea_row, is_with_g, exchange_size, exchange_partner, xchg_row, nop_row, table_byte, xlat_row, reversed, bswap_row};
 ghost use Rattle.xe_move.specs.Source.{IsSource};
 
-use crate::source::{Source, read_source};
+use crate::source::{Source, read_source, read_source_at_once};
 use xe_base::{Cpu, SegName};
 use xe_ctx::operand::{
     AX, BX, Operand, done, opcode_register, operand_of, read_for_write, read_operand,
-    read_register, reg_of, size_by_opcode, write_operand, write_register,
+    read_register, reg_of, size_by_opcode, write_at_once, write_operand, write_register,
 };
 use xe_ctx::{Bus, Ctx, End, Stop};
 use xe_icpt::Intercepts;
 use xe_opmap::Insn;
 
 /// Whether a MOV writes E from G: 88 and 89.
+#[inline(always)]
 fn is_to_e(opcode: u16) -> bool
     ensures { result ≡ is_to_e opcode }
 {
@@ -25,6 +26,7 @@ fn is_to_e(opcode: u16) -> bool
 }
 
 /// Whether a MOV writes G from E: 8A and 8B.
+#[inline(always)]
 fn is_to_g(opcode: u16) -> bool
     ensures { result ≡ is_to_g opcode }
 {
@@ -32,6 +34,7 @@ fn is_to_g(opcode: u16) -> bool
 }
 
 /// Whether a MOV writes the accumulator from the address that the instruction carries: A0 and A1.
+#[inline(always)]
 fn is_from_address(opcode: u16) -> bool
     ensures { result ≡ is_from_address opcode }
 {
@@ -39,6 +42,7 @@ fn is_from_address(opcode: u16) -> bool
 }
 
 /// Whether a MOV writes to the address that the instruction carries, from the accumulator: A2 and A3.
+#[inline(always)]
 fn is_to_address(opcode: u16) -> bool
     ensures { result ≡ is_to_address opcode }
 {
@@ -46,6 +50,7 @@ fn is_to_address(opcode: u16) -> bool
 }
 
 /// Whether a MOV writes an immediate to a register that its opcode names: B0 to BF.
+#[inline(always)]
 fn is_to_named_register(opcode: u16) -> bool
     ensures { result ≡ is_to_named_register opcode }
 {
@@ -53,6 +58,7 @@ fn is_to_named_register(opcode: u16) -> bool
 }
 
 /// Whether the opcode of such a MOV names a byte register: B0 to B7.
+#[inline(always)]
 fn names_byte_register(opcode: u16) -> bool
     ensures { result ≡ names_byte_register opcode }
 {
@@ -61,6 +67,7 @@ fn names_byte_register(opcode: u16) -> bool
 
 /// The size of a MOV in bytes: where the opcode names a register, its fourth bit chooses between bytes
 /// and the operand size, else its last.
+#[inline(always)]
 fn move_size(insn: &Insn, cpu: &Cpu) -> u8
     requires { IsOf cpu.now insn.now }
     ensures value { result ≡ move_size insn.now }
@@ -76,6 +83,7 @@ fn move_size(insn: &Insn, cpu: &Cpu) -> u8
 }
 
 /// The operand at the address that the instruction carries: in DS, or in the segment of a prefix.
+#[inline(always)]
 fn at_address(insn: &Insn) -> Operand
     ensures value { result ≡ at_address insn.now }
     ensures register { IsOperand result }
@@ -87,6 +95,7 @@ fn at_address(insn: &Insn) -> Operand
 }
 
 /// What a MOV writes.
+#[inline(always)]
 fn move_target(insn: &Insn, cpu: &Cpu) -> Operand
     requires { IsOf cpu.now insn.now }
     ensures value { result ≡ move_target insn.now cpu.now }
@@ -106,6 +115,7 @@ fn move_target(insn: &Insn, cpu: &Cpu) -> Operand
 }
 
 /// What a MOV reads.
+#[inline(always)]
 fn move_source(insn: &Insn, cpu: &Cpu) -> Source
     requires { IsOf cpu.now insn.now }
     ensures value { result ≡ move_source insn.now cpu.now }
@@ -141,7 +151,31 @@ pub fn mov<B: Bus, I: Intercepts>(
     Ok(done(insn, cpu))
 }
 
+/// MOV, where it is done at once.
+#[inline(always)]
+pub(crate) fn mov_at_once<B: Bus, I: Intercepts>(
+    insn: &Insn,
+    ctx: &mut Ctx<B, I>,
+    cpu: &mut Cpu,
+) -> bool
+    requires { IsReady B.sight insn.now ctx.old cpu.old 10 36 }
+    ensures { AtOnce B.sight I.hits (mov_row insn.now (cpu_of ctx.old)) ctx.old cpu.old result ctx.new cpu.new }
+{
+    let size = move_size(insn, cpu);
+    let source = move_source(insn, cpu);
+    let target = move_target(insn, cpu);
+    let Some(value) = read_source_at_once(insn, ctx, source, size) else {
+        return false;
+    };
+    if !write_at_once(insn, ctx, cpu, target, size, value) {
+        return false;
+    }
+    cpu.advance(insn.len);
+    true
+}
+
 /// Where an operand in memory lies in its segment.
+#[inline(always)]
 fn offset_of(operand: Operand) -> u64
     ensures { result ≡ offset_of operand }
 {
@@ -164,6 +198,23 @@ pub fn lea<B: Bus, I: Intercepts>(
     let register = reg_of(insn, cpu);
     write_register(insn, cpu, insn.opsize, register, offset);
     Ok(done(insn, cpu))
+}
+
+/// LEA, which is always done at once.
+#[inline(always)]
+pub(crate) fn lea_at_once<B: Bus, I: Intercepts>(
+    insn: &Insn,
+    ctx: &mut Ctx<B, I>,
+    cpu: &mut Cpu,
+) -> bool
+    requires { IsReady B.sight insn.now ctx.old cpu.old 0 0 }
+    ensures { AtOnce B.sight I.hits (lea_row insn.now (cpu_of ctx.old)) ctx.old cpu.old result ctx.new cpu.new }
+{
+    let offset = offset_of(operand_of(insn, cpu));
+    let register = reg_of(insn, cpu);
+    write_register(insn, cpu, insn.opsize, register, offset);
+    cpu.advance(insn.len);
+    true
 }
 
 /// Whether an XCHG is with G: 86 and 87. The others exchange the accumulator with the register that

@@ -3,16 +3,16 @@
 
 ghost use Rattle.xe_base.specs.State.{Valid};
 ghost use Rattle.std.specs.Prelude.{◌≡◌};
-ghost use Rattle.xe_ctx.specs.Contract.{ℕ, true, IfOk, IsOf, HasLeft, IsReady, Runs, Finishes, cpu_of};
+ghost use Rattle.xe_ctx.specs.Contract.{ℕ, true, IfOk, IsOf, HasLeft, IsReady, Runs, Finishes, AtOnce, cpu_of};
 ghost use Rattle.xe_ctx.specs.Finishes.{IsSound};
 ghost use Rattle.xe_ctx.specs.Flow.{outcome};
 ghost use Rattle.xe_ctx.specs.Runs.{finished};
 ghost use Rattle.xe_move.specs.Rows.{is_row, row_of};
 
 use crate::condition::{cmov, set};
-use crate::extend::{cbw, cwd, movsx, movzx};
+use crate::extend::{cbw, cwd, movsx, movsx_at_once, movzx, movzx_at_once};
 use crate::flag::{clc, cmc, direction, lahf, sahf, stc};
-use crate::moves::{bswap, lea, mov, nop, xchg, xlat};
+use crate::moves::{bswap, lea, lea_at_once, mov, mov_at_once, nop, xchg, xlat};
 use xe_base::Cpu;
 use xe_ctx::{Bus, Ctx, End, Flow, Stop};
 use xe_icpt::Intercepts;
@@ -81,6 +81,23 @@ fn run_row<B: Bus, I: Intercepts>(
         Row::Xlat => xlat(insn, ctx, cpu),
         Row::Bswap => bswap(insn, ctx, cpu),
         _ => unreachable!(),
+    }
+}
+
+/// Does an instruction of one of this crate's rows, where that is done at once, and says whether it did;
+/// else nothing changes, and [`exec_into`] does it.
+#[inline(always)]
+pub fn exec_at_once<B: Bus, I: Intercepts>(insn: &Insn, ctx: &mut Ctx<B, I>, cpu: &mut Cpu) -> bool
+    requires row { is_row insn.now.row ≡ true }
+    requires ready { IsReady B.sight insn.now ctx.old cpu.old 10 36 }
+    ensures { AtOnce B.sight I.hits (row_of insn.now (cpu_of ctx.old)) ctx.old cpu.old result ctx.new cpu.new }
+{
+    match insn.row {
+        Row::Mov => mov_at_once(insn, ctx, cpu),
+        Row::Lea => lea_at_once(insn, ctx, cpu),
+        Row::Movzx => movzx_at_once(insn, ctx, cpu),
+        Row::Movsx => movsx_at_once(insn, ctx, cpu),
+        _ => false,
     }
 }
 
