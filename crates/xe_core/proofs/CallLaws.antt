@@ -1,8 +1,9 @@
-use Rattle.std.proofs.Common.{ℕ, zero, suc, ◌≡◌, ◌+◌, List, [], length, Bool, true, false, Option, Some, None, Result, Ok, Err, IsSome, refl, sym, ap, ◌∙◌, if◌then◌else◌, subst, inl, inr, arith}
+use Rattle.std.proofs.Common.{ℕ, zero, suc, ◌≡◌, ◌+◌, List, [], ◌∷◌, length, Bool, true, false, Option, Some, None, Result, Ok, Err, IsSome, refl, sym, ap, ◌∙◌, if◌then◌else◌, subst, inl, inr, arith}
 use Rattle.std.proofs.lemmas.Bool.{cases_Bool}
 use Rattle.xe_base.specs.declared.access.Access.{Access}
 use Rattle.xe_base.specs.declared.access.Made.{Made}
 use Rattle.xe_base.specs.Ram.{Area}
+use Rattle.xe_base.specs.Calm.{Calm}
 use Rattle.xe_base.specs.State.{Valid}
 use Rattle.xe_base.specs.declared.cpu.Cpu.{Cpu}
 use Rattle.xe_icpt.specs.declared.exit.Exit.{Exit}
@@ -27,7 +28,7 @@ use Rattle.xe_ctx.specs.Runs.{finished}
 use Rattle.xe_ctx.specs.State.{State}
 use Rattle.xe_core.specs.Step.{Stepped, step, stepped, executed, concluded, early, outcome_of, undefined_opcode, retired, tf, is_done}
 use Rattle.xe_ctx.specs.Supply.{Supply}
-use Rattle.xe_ctx.specs.View.{accepts, opens, CanKeep}
+use Rattle.xe_ctx.specs.View.{accepts, opens, unused, CanKeep}
 use Rattle.xe_ctx.specs.declared.report.Outcome.{Outcome}
 use Rattle.xe_ctx.specs.declared.report.Outcome.TheVariants.{Done, Unhandled}
 use Rattle.xe_ctx.specs.declared.report.Outcome.TheVariants as outcomes
@@ -40,8 +41,8 @@ use Rattle.xe_ctx.proofs.FinishLaws.{gives_of}
 use Rattle.xe_core.proofs.Reporting.{reports}
 use Rattle.xe_core.proofs.Trying.{tried_early, tried_finish, tried_stop}
 use Rattle.xe_core.specs.Emulate.{decided, fetched, step_of, after_by, Keepable}
-use Rattle.xe_core.specs.Rows.{table}
-use Rattle.xe_core.proofs.RowLaws.{sound_table}
+use Rattle.xe_core.specs.Rows.{table, is_calm}
+use Rattle.xe_core.proofs.RowLaws.{sound_table, calm_table}
 
 -- ---- the step by what was fetched
 
@@ -193,6 +194,10 @@ module _ (s : State) (hits : Point → Option Exit) (old taken begun new : Sight
   pub came_sound : (end : End) → out ≡ Ok end → Valid s.cpu → IsSound (record { cpu = draft; more = end.more; retire = end.retire })
   came_sound end is v = gives_of IsSound (table insn s.cpu) (record { cpu = draft; more = end.more; retire = end.retire }) (accepts insn.len old) new (sound_table insn s.cpu of_ v) (did (Ok end) is)
 
+  -- one of a row that changes the registers calmly has done so
+  pub came_calm : (end : End) → out ≡ Ok end → Valid s.cpu → is_calm insn.row ≡ true → Calm s.cpu draft
+  came_calm end is v calm = gives_of (λ (f : Finish). Calm s.cpu f.cpu) (table insn s.cpu) (record { cpu = draft; more = end.more; retire = end.retire }) (accepts insn.len old) new (calm_table insn s.cpu calm of_ v) (did (Ok end) is)
+
 -- ---- the judgement
 
 judged-or : (o : Outcome) (n : ℕ) (u : Option Access) → is_done (judged o n u) ≡ true → (u ≡ None) × (judged o n u ≡ o)
@@ -295,6 +300,22 @@ went_no_further so_far may row o made told undone e = (e, λ _. undone-last o _ 
 pub nothing_unused : (n : ℕ) → expected nothing n ≡ None
 nothing_unused zero = refl
 nothing_unused (suc n) = refl
+
+-- a record without a first access keeps nothing
+pub kept_nothing : (K : Kept) → IsKept K.answers K.asked → expected K 0 ≡ None → K ≡ nothing
+kept_nothing K is e = alone K.answers K.asked is.empty e where
+  alone : (answers : List Made) (asked : Option Access) → (asked ≡ None → answers ≡ []) → expected (record { answers = answers; asked = asked }) 0 ≡ None → record { answers = answers; asked = asked } ≡ nothing
+  alone [] None empty e = refl
+  alone [] (Some a) empty e = cc
+  alone (m ∷ ms) asked empty e = cc
+
+-- a step that began with nothing kept has reached all of it at its end
+pub still_unused : (K L : Kept) (made now : List Made) → IsKept K.answers K.asked → made ≡ [] → unused K made ≡ None → L ≡ K → unused L now ≡ None
+still_unused K L made now is none e same =
+    let first : expected K 0 ≡ None = rw none at e in
+    same-unused L now (same ∙ kept_nothing K is first) where
+      same-unused : (L : Kept) (now : List Made) → L ≡ nothing → unused L now ≡ None
+      same-unused L now e = rw e (nothing_unused (length now))
 
 -- ---- one step
 

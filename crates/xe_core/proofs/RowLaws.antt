@@ -1,4 +1,5 @@
 use Rattle.std.proofs.Common.{◌≡◌, [], ◌∷◌, Bool, true, false, if◌then◌else◌, refl, arith}
+use Rattle.xe_base.specs.Calm.{Calm}
 use Rattle.xe_base.specs.Exceptions.{plain_exception, invalid_opcode}
 use Rattle.xe_base.specs.State.{Valid}
 use Rattle.xe_base.specs.declared.cpu.Cpu.{Cpu}
@@ -10,16 +11,20 @@ use Rattle.xe_ctx.specs.Finishes.{EachGives, IsSound}
 use Rattle.xe_ctx.specs.Operand.{IsOf}
 use Rattle.xe_ctx.specs.Tree.{Tree, fault}
 use Rattle.xe_ctx.specs.declared.stop.Finish.{Finish}
+use Rattle.xe_ctx.specs.Plain.{EndsPlainly}
 use Rattle.xe_ctx.proofs.BoundLaws.{takes_more}
+use Rattle.xe_ctx.proofs.FinishLaws.{each_implies}
 use Rattle.xe_move.specs.Rows as moves
 use Rattle.xe_move.proofs.CalmRows as move_rows
 use Rattle.xe_move.proofs.BoundRows as move_bounds
 use Rattle.xe_arith.specs.Rows as arith
 use Rattle.xe_arith.proofs.CalmRows as arith_rows
 use Rattle.xe_arith.proofs.BoundRows as arith_bounds
+use Rattle.xe_flow.specs.Calmly.{EndsCalmly}
 use Rattle.xe_flow.specs.Rows as flow
 use Rattle.xe_flow.proofs.CalmRows as flow_rows
 use Rattle.xe_flow.proofs.BoundRows as flow_bounds
+use Rattle.xe_string.specs.Repeat.{EndsElement}
 use Rattle.xe_string.specs.Rows as string
 use Rattle.xe_string.proofs.CalmRows as string_rows
 use Rattle.xe_string.proofs.BoundRows as string_bounds
@@ -32,7 +37,7 @@ use Rattle.xe_far.proofs.BoundRows as far_bounds
 use Rattle.xe_sys.specs.Rows as sys
 use Rattle.xe_sys.proofs.SoundRows as sys_rows
 use Rattle.xe_sys.proofs.BoundRows as sys_bounds
-use Rattle.xe_core.specs.Rows.{table, owners, how_many}
+use Rattle.xe_core.specs.Rows.{table, owners, how_many, is_calm}
 
 -- The laws of the table: a case for each crate.
 
@@ -213,3 +218,19 @@ few_table insn cpu of_ = all (TakesAtMost 64 256 1014) tt insn cpu
     (λ e. takes_more 64 64 12 256 42 1014 (omega arith) (omega arith) (omega arith) (desc.row_of insn cpu) (desc_bounds.rows_take_little insn cpu of_))
     (λ e. takes_more 64 64 30 256 92 1014 (omega arith) (omega arith) (omega arith) (far.row_of insn cpu) (far_bounds.rows_take_little insn cpu of_))
     (λ e. takes_more 64 64 6 256 30 1014 (omega arith) (omega arith) (omega arith) (sys.row_of insn cpu) (sys_bounds.rows_take_little insn cpu of_))
+
+-- a choice of which the first four ways have a property
+four : (P : Tree Finish → Type 0) (a b c d : Bool) (m r f s rest : Tree Finish) → (a ≡ true → P m) → (b ≡ true → P r) → (c ≡ true → P f) → (d ≡ true → P s) → (if a then true else (if b then true else (if c then true else d))) ≡ true → P (if a then m else (if b then r else (if c then f else (if d then s else rest))))
+four P true b c d m r f s rest x y z w h = x refl
+four P false true c d m r f s rest x y z w h = y refl
+four P false false true d m r f s rest x y z w h = z refl
+four P false false false true m r f s rest x y z w h = w refl
+four P false false false false m r f s rest x y z w h = cc
+
+pub calm_table : (insn : Insn) (cpu : Cpu) → is_calm insn.row ≡ true → IsOf cpu insn → Valid cpu → EachGives (λ (f : Finish). Calm cpu f.cpu) (table insn cpu)
+calm_table insn cpu calm of_ h = four (EachGives (λ (f : Finish). Calm cpu f.cpu)) (moves.is_row insn.row) (arith.is_row insn.row) (flow.is_row insn.row) (string.is_row insn.row) _ _ _ _ _
+    (λ e. each_implies (EndsPlainly insn cpu) (λ (f : Finish). Calm cpu f.cpu) (λ f p. p.calm) (moves.row_of insn cpu) (move_rows.rows_plain insn cpu e))
+    (λ e. each_implies (EndsPlainly insn cpu) (λ (f : Finish). Calm cpu f.cpu) (λ f p. p.calm) (arith.row_of insn cpu) (arith_rows.rows_plain insn cpu e))
+    (λ e. each_implies (EndsCalmly cpu) (λ (f : Finish). Calm cpu f.cpu) (λ f p. p.calm) (flow.row_of insn cpu) (flow_rows.rows_calm insn cpu e of_))
+    (λ e. each_implies (EndsElement insn cpu) (λ (f : Finish). Calm cpu f.cpu) (λ f p. p.calm) (string.row_of insn cpu) (string_rows.rows_calm insn cpu e h))
+    calm

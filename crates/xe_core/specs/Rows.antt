@@ -1,4 +1,4 @@
-use Rattle.std.specs.Prelude.{ℕ, ◌+◌, List, [], ◌∷◌, Bool, if◌then◌else◌}
+use Rattle.std.specs.Prelude.{ℕ, ◌+◌, List, [], ◌∷◌, Bool, true, if◌then◌else◌}
 use Rattle.xe_base.specs.Exceptions.{plain_exception, invalid_opcode}
 use Rattle.xe_opmap.specs.declared.row.Row.{Row}
 use Rattle.xe_move.specs.Rows as moves
@@ -11,7 +11,8 @@ use Rattle.xe_sys.specs.Rows as sys
 use Rattle.xe_ctx.specs.Tree.{fault}
 use Rattle.xe_core.specs.Step.{Table}
 
--- The instruction table: the rows of all crates. A crate of rows is a line in each of these two definitions.
+-- The instruction table: the rows of all crates. A crate of rows is a line in each of the first two definitions, and in the last one where its rows change the
+-- registers calmly.
 
 -- what an instruction asks for, by the crate that has its row
 abbrev pub table : Table
@@ -41,3 +42,11 @@ owners row =
 abbrev pub how_many : List Bool → ℕ
 how_many [] = 0
 how_many (b ∷ bs) = if b then 1 + how_many bs else how_many bs
+
+-- the row is of a crate whose rows all change the registers calmly: the general ones, the instruction pointer, and flags that an instruction may change
+abbrev pub is_calm : Row → Bool
+is_calm row =
+    if moves.is_row row then true else
+    (if arith.is_row row then true else
+    (if flow.is_row row then true else
+    string.is_row row))

@@ -1,8 +1,9 @@
 //! One call of the emulator: a turn of steps.
 
-ghost use Rattle.std.specs.Prelude.{◌≡◌, ◌≤◌, ◌<◌, ◌+◌, ◌-◌, ◌^◌, [], ℕ, true, false, None, List, length, All, IsSome, if◌then◌else◌};
+ghost use Rattle.std.specs.Prelude.{◌≡◌, ◌≤◌, ◌<◌, ◌+◌, ◌-◌, ◌^◌, [], ℕ, true, false, None, List, length, All, IsSome, Ok, if◌then◌else◌};
 ghost use Rattle.xe_base.specs.Access.{IsWellMade};
 ghost use Rattle.xe_base.specs.declared.access.Made.{Made};
+ghost use Rattle.xe_base.specs.Calm.{Calm};
 ghost use Rattle.xe_base.specs.State.{Valid};
 ghost use Rattle.xe_ctx.specs.Bus.{HasRoom};
 ghost use Rattle.xe_core.specs.Call.{Reports, FollowsTape, Tells, Counted, StandsEach, Stands, Led, Played, Steady, Completes, CompletesOver, before_last, divergence, Fits};
@@ -17,14 +18,17 @@ ghost use Rattle.xe_ctx.specs.declared.report.Outcome.TheVariants.{Done};
 ghost use Rattle.xe_ctx.specs.Supply.{answers, answers_alone};
 ghost use Rattle.xe_ctx.specs.Tape.{Tape, Key};
 ghost use Rattle.xe_ctx.specs.View.{view, cpu_of, state_in, kept_in, made_in, work_of, code_of, machine_back, bus_ref, bus_back, record_back, SameHandles, IsOpen, accesses_left, bytes_left, unused, kept_after, CanKeep};
-ghost use Rattle.xe_core.specs.Emulate.{step_of, steps_of, after_by, Keepable};
+ghost use Rattle.xe_ctx.specs.Fetch.{avail};
+ghost use Rattle.xe_ctx.specs.Operand.{IsOf};
+ghost use Rattle.xe_core.specs.Emulate.{step_of, steps_of, after_by, fetched, Keepable};
+ghost use Rattle.xe_core.specs.Rows.{is_calm};
 
-use crate::fetch::{instruction, outcome_of};
-use crate::rows::exec;
+use crate::fetch::{instruction, known_instruction, outcome_of};
+use crate::rows::{exec, exec_at_once, is_calm};
 use xe_base::{Cpu, Fault, INVALID_OPCODE, Made};
 use xe_ctx::{Bus, Ctx, Diverged, End, Machine, Outcome, Record, Report, Stop};
 use xe_icpt::Intercepts;
-use xe_opmap::Row;
+use xe_opmap::{Insn, Row};
 
 /// Whether TF is set, so that a trap follows the step.
 #[inline]
@@ -324,9 +328,109 @@ fn halt<B: Bus, I: Intercepts>(
     }
 }
 
+/// A step takes effect, with these registers.
+#[inline(always)]
+fn take_effect<B: Bus, I: Intercepts>(ctx: Ctx<B, I>, row: Row, cpu: &Cpu)
+    requires open { IsOpen B.sight ctx }
+    requires valid { Valid cpu.now }
+    requires calm { is_calm row ≡ true → Calm (cpu_of ctx) cpu.now }
+    requires reached { unused (kept_in ctx) (made_in ctx) ≡ None }
+    ensures bus { (bus_back ctx.exit).now ≡ (bus_ref ctx.entry).now }
+    ensures machine { state_of (machine_back ctx.exit).now ≡ record { cpu = cpu.now; ram = work_of ctx.entry } }
+    ensures record { kept_of (record_back ctx.exit).now ≡ nothing }
+{
+    if is_calm(row) {
+        ctx.commit_calm(cpu);
+    } else {
+        ctx.commit(*cpu);
+    }
+}
+
+/// A step whose instruction was found: does the instruction, whatever it needs. It isn't inlined, so that a
+/// step that is done at once has no room for what only this needs.
+#[inline(never)]
+fn do_instruction<B: Bus, I: Intercepts>(
+    m: &mut Machine,
+    icpt: &I,
+    bus: &mut B,
+    rec: &mut Record,
+    insn: &Insn,
+    cpu: &mut Cpu,
+    so_far: SoFar,
+    may_go_on: bool,
+    report: &mut Report,
+) -> Option<SoFar>
+    requires found { Ok insn.now ≡ fetched (state_of m.old) }
+    requires had { insn.now.len ≤ length (avail (state_of m.old)).bytes }
+    requires of_code { IsOf (state_of m.old).cpu insn.now }
+    requires room { HasRoom (B.sight bus.old) (256 - length (kept_of rec.old).answers) }
+    requires draft { cpu.old ≡ (state_of m.old).cpu }
+    requires few { so_far.elements < 2 ^ 32 - 1 }
+    requires later { 0 < so_far.elements → kept_of rec.old ≡ nothing }
+    ensures did { Did (step_of (state_of m.old) (I.hits icpt.now)) (state_of m.old) (kept_of rec.old) (B.sight bus.old) so_far may_go_on result report.new (state_of m.new) (kept_of rec.new) (B.sight bus.new) }
+    ensures draft { cpu.new ≡ (state_of m.new).cpu }
+{
+    let is_trapped = is_trapped(cpu);
+    let row = insn.row;
+    let mut ctx = Ctx::begin(m, icpt, bus, rec);
+    ctx.accept(insn.len);
+    match exec(insn, &mut ctx, cpu) {
+        Ok(End { more, retire }) => {
+            let retire = retired(retire, is_trapped);
+            if has_reached_all(&ctx, so_far.elements == 0) {
+                let made = ctx.made();
+                let next = go_on(made, row, more, retire, so_far, may_go_on, report);
+                take_effect(ctx, row, cpu);
+                return next;
+            }
+            *cpu = *ctx.cpu();
+            give_up_early(ctx, row, more, retire, so_far, report);
+            None
+        }
+        Err(stop) => {
+            *cpu = *ctx.cpu();
+            halt(ctx, row, &stop, so_far, report);
+            None
+        }
+    }
+}
+
+/// A step whose instruction isn't known yet: finds it, and does it.
+#[inline(never)]
+fn find_instruction<B: Bus, I: Intercepts>(
+    m: &mut Machine,
+    icpt: &I,
+    bus: &mut B,
+    rec: &mut Record,
+    cpu: &mut Cpu,
+    so_far: SoFar,
+    may_go_on: bool,
+    report: &mut Report,
+) -> Option<SoFar>
+    requires room { HasRoom (B.sight bus.old) (256 - length (kept_of rec.old).answers) }
+    requires draft { cpu.old ≡ (state_of m.old).cpu }
+    requires few { so_far.elements < 2 ^ 32 - 1 }
+    requires later { 0 < so_far.elements → kept_of rec.old ≡ nothing }
+    ensures did { Did (step_of (state_of m.old) (I.hits icpt.now)) (state_of m.old) (kept_of rec.old) (B.sight bus.old) so_far may_go_on result report.new (state_of m.new) (kept_of rec.new) (B.sight bus.new) }
+    ensures draft { cpu.new ≡ (state_of m.new).cpu }
+{
+    let mut ctx = Ctx::begin(m, icpt, bus, rec);
+    match instruction(&mut ctx) {
+        Ok(insn) => do_instruction(m, icpt, bus, rec, &insn, cpu, so_far, may_go_on, report),
+        Err(outcome) => {
+            give_up(ctx, None, &outcome, so_far, report);
+            None
+        }
+    }
+}
+
 /// One step of a turn, with a draft that has the machine's registers: what the turn has come to, where
-/// it may go on and does, and the draft has the machine's registers again. Else the report tells of
-/// the turn.
+/// it may go on and does; else the report tells of the turn. At every end the draft has the machine's
+/// registers again.
+///
+/// An instruction that is known, and is done at once, finishes here. Every other one goes on elsewhere,
+/// and under paging each does, since there its pages are to be marked.
+#[inline(always)]
 fn step<B: Bus, I: Intercepts>(
     m: &mut Machine,
     icpt: &I,
@@ -342,64 +446,79 @@ fn step<B: Bus, I: Intercepts>(
     requires few { so_far.elements < 2 ^ 32 - 1 }
     requires later { 0 < so_far.elements → kept_of rec.old ≡ nothing }
     ensures did { Did (step_of (state_of m.old) (I.hits icpt.now)) (state_of m.old) (kept_of rec.old) (B.sight bus.old) so_far may_go_on result report.new (state_of m.new) (kept_of rec.new) (B.sight bus.new) }
-    ensures draft { IsSome result → cpu.new ≡ (state_of m.new).cpu }
+    ensures draft { cpu.new ≡ (state_of m.new).cpu }
 {
     let is_trapped = is_trapped(cpu);
     let mut ctx = Ctx::begin(m, icpt, bus, rec);
-    let insn = match instruction(&mut ctx) {
-        Ok(insn) => insn,
-        Err(outcome) => {
-            give_up(ctx, None, &outcome, so_far, report);
-            return None;
-        }
+    let is_fresh = has_reached_all(&ctx, so_far.elements == 0);
+    let Some(known) = known_instruction(&ctx) else {
+        return find_instruction(m, icpt, bus, rec, cpu, so_far, may_go_on, report);
     };
-    ctx.accept(insn.len);
-    let row = insn.row;
-    match exec(&insn, &mut ctx, cpu) {
-        Ok(End { more, retire }) => {
-            let retire = retired(retire, is_trapped);
-            if has_reached_all(&ctx, so_far.elements == 0) {
-                let made = ctx.made();
-                let next = go_on(made, row, more, retire, so_far, may_go_on, report);
-                ctx.commit(*cpu);
-                return next;
-            }
-            give_up_early(ctx, row, more, retire, so_far, report);
-            None
-        }
-        Err(stop) => {
-            halt(ctx, row, &stop, so_far, report);
-            None
-        }
+    let insn = *known;
+    if cpu.pg() || !is_fresh {
+        return do_instruction(m, icpt, bus, rec, &insn, cpu, so_far, may_go_on, report);
     }
+    ctx.accept(insn.len);
+    if !exec_at_once(&insn, &mut ctx, cpu) {
+        return do_instruction(m, icpt, bus, rec, &insn, cpu, so_far, may_go_on, report);
+    }
+    let retire = retired(0, is_trapped);
+    let made = ctx.made();
+    let next = go_on(made, insn.row, false, retire, so_far, may_go_on, report);
+    ctx.commit_calm(cpu);
+    next
+}
+
+/// A step behind which another one may follow.
+#[inline(never)]
+fn step_of_several<B: Bus, I: Intercepts>(
+    m: &mut Machine,
+    icpt: &I,
+    bus: &mut B,
+    rec: &mut Record,
+    cpu: &mut Cpu,
+    so_far: SoFar,
+    report: &mut Report,
+) -> Option<SoFar>
+    requires room { HasRoom (B.sight bus.old) (256 - length (kept_of rec.old).answers) }
+    requires draft { cpu.old ≡ (state_of m.old).cpu }
+    requires few { so_far.elements < 2 ^ 32 - 1 }
+    requires later { 0 < so_far.elements → kept_of rec.old ≡ nothing }
+    ensures did { Did (step_of (state_of m.old) (I.hits icpt.now)) (state_of m.old) (kept_of rec.old) (B.sight bus.old) so_far true result report.new (state_of m.new) (kept_of rec.new) (B.sight bus.new) }
+    ensures draft { cpu.new ≡ (state_of m.new).cpu }
+{
+    step(m, icpt, bus, rec, cpu, so_far, true, report)
 }
 
 /// One call, with all that it says in one record. The draft and the report are those of the whole
 /// turn: a step in its middle copies no list and looks at no record.
+#[inline(always)]
 fn turn<B: Bus, I: Intercepts>(
     m: &mut Machine,
     icpt: &I,
     bus: &mut B,
     rec: &mut Record,
+    cpu: &mut Cpu,
     batch: u32,
     report: &mut Report,
 )
     requires batch { 1 ≤ batch }
+    requires draft { cpu.old ≡ (state_of m.old).cpu }
     requires room { HasRoom (B.sight bus.old) (256 - length (kept_of rec.old).answers) }
     ensures reports { Reports (steps_of (I.hits icpt.now)) batch (state_of m.old) (kept_of rec.old) (B.sight bus.old) report.new (state_of m.new) (kept_of rec.new) (B.sight bus.new) }
+    ensures draft { cpu.new ≡ (state_of m.new).cpu }
 {
-    let mut cpu = *m.cpu();
     let mut so_far = SoFar {
         elements: 0,
         finished: None,
     };
     for nth in 1..batch {
-        match step(m, icpt, bus, rec, &mut cpu, so_far, true, report) {
+        match step_of_several(m, icpt, bus, rec, cpu, so_far, report) {
             Some(next) => so_far = next,
             None => return,
         }
     }
-    step(m, icpt, bus, rec, &mut cpu, so_far, false, report);
+    step(m, icpt, bus, rec, cpu, so_far, false, report);
 }
 
 /// Runs one turn of the machine: the instruction at CS:RIP, or, of a repeated string instruction, up to
@@ -474,7 +593,49 @@ pub fn emulate_into<B: Bus, I: Intercepts>(
     ensures completes { Fits (step_of (state_of m.old) (I.hits icpt.now)) (kept_of rec.old) → Steady (B.sight bus.old) (B.sight bus.new) → Completes (steps_of (I.hits icpt.now)) batch (state_of m.old) report.new }
     ensures completes_over { (t : Tape) → (B.sight bus.old).tape ≡ Some t → Fits (step_of (state_of m.old) (I.hits icpt.now)) (kept_of rec.old) → CompletesOver (steps_of (I.hits icpt.now)) batch (state_of m.old) (kept_of rec.old) t report.new }
 {
-    turn(m, icpt, bus, rec, batch, report)
+    let mut cpu = *m.cpu();
+    emulate_with_draft(m, icpt, bus, rec, &mut cpu, batch, report)
+}
+
+/// Runs one turn as [`emulate_into`] does, on a draft of the caller's that has the machine's registers, and
+/// has them again at every end. It is for one who runs turn after turn: the registers aren't copied to a
+/// draft at each.
+pub fn emulate_with_draft<B: Bus, I: Intercepts>(
+    m: &mut Machine,
+    icpt: &I,
+    bus: &mut B,
+    rec: &mut Record,
+    cpu: &mut Cpu,
+    batch: u32,
+    report: &mut Report,
+)
+    requires draft { cpu.old ≡ (state_of m.old).cpu }
+    requires batch { 1 ≤ batch }
+    requires room { HasRoom (B.sight bus.old) (256 - length (kept_of rec.old).answers) }
+    ensures draft { cpu.new ≡ (state_of m.new).cpu }
+    ensures tells { Tells (divergence (step_of (state_of m.old) (I.hits icpt.now)) (kept_of rec.old)) (steps_of (I.hits icpt.now)) batch (state_of m.old) (kept_of rec.old) report.new (state_of m.new) (kept_of rec.new) }
+    ensures told { (t : Tape) → (B.sight bus.old).tape ≡ Some t → FollowsTape (steps_of (I.hits icpt.now)) batch (state_of m.old) (kept_of rec.old) t report.new (state_of m.new) (kept_of rec.new) (B.sight bus.new).tape }
+    ensures untold { (B.sight bus.old).tape ≡ None → (B.sight bus.new).tape ≡ None }
+    ensures room { (B.sight bus.old).room ≤ (B.sight bus.new).room + (length report.new.accesses.items - length (kept_of rec.old).answers) }
+    ensures spare { (k : Key) → (B.sight bus.new).spare k ≡ (B.sight bus.old).spare k }
+    ensures unready { (B.sight bus.old).unready ≤ (B.sight bus.new).unready }
+    ensures faults { (B.sight bus.old).faults ≤ (B.sight bus.new).faults }
+    ensures counted { Counted report.new.outcome (B.sight bus.old) (B.sight bus.new) }
+    ensures well_made { All IsWellMade report.new.accesses.items }
+    ensures few { report.new.elements ≤ batch }
+    ensures alone { IsSome (kept_of rec.old).asked → report.new.elements ≡ (if is_done report.new.outcome then 1 else 0) }
+    ensures stays { state_of m.new ≡ after_steps (steps_of (I.hits icpt.now)) report.new.elements (state_of m.old) (answers_alone (answers report.new.accesses.items)) }
+    ensures valid { Valid (state_of m.new).cpu }
+    ensures led { Led (steps_of (I.hits icpt.now)) batch (state_of m.old) (kept_of rec.old) report.new (state_of m.new) (kept_of rec.new) }
+    ensures asks { is_diverged report.new.outcome ≡ false → StandsEach (step_of (before_last (steps_of (I.hits icpt.now)) (state_of m.old) report.new) (I.hits icpt.now)) report.new.row [] report.new.accesses.items }
+    ensures stands { Stands report.new.outcome (step_of (before_last (steps_of (I.hits icpt.now)) (state_of m.old) report.new) (I.hits icpt.now)) report.new.row report.new.accesses.items }
+    ensures fitting { Fits (step_of (state_of m.old) (I.hits icpt.now)) (kept_of rec.old) → is_diverged report.new.outcome ≡ false }
+    ensures plays { (t : Tape) → (B.sight bus.old).tape ≡ Some t → is_diverged report.new.outcome ≡ false → Played (kept_of rec.old) t report.new (B.sight bus.new).tape }
+    ensures fits { is_diverged report.new.outcome ≡ false → Fits (step_of (state_of m.new) (I.hits icpt.now)) (kept_of rec.new) }
+    ensures completes { Fits (step_of (state_of m.old) (I.hits icpt.now)) (kept_of rec.old) → Steady (B.sight bus.old) (B.sight bus.new) → Completes (steps_of (I.hits icpt.now)) batch (state_of m.old) report.new }
+    ensures completes_over { (t : Tape) → (B.sight bus.old).tape ≡ Some t → Fits (step_of (state_of m.old) (I.hits icpt.now)) (kept_of rec.old) → CompletesOver (steps_of (I.hits icpt.now)) batch (state_of m.old) (kept_of rec.old) t report.new }
+{
+    turn(m, icpt, bus, rec, cpu, batch, report)
 }
 
 /// Runs one turn as [`emulate_into`] does, and makes its report anew.

@@ -1,9 +1,10 @@
 //! The instruction at CS:RIP.
 
-ghost use Rattle.std.specs.Prelude.{◌≡◌, ◌≤◌, [], IfOk};
+ghost use Rattle.std.specs.Prelude.{◌≡◌, ◌≤◌, [], length, Ok, IfOk, IfSome};
+ghost use Rattle.xe_ctx.specs.Fetch.{avail};
 ghost use Rattle.xe_ctx.specs.Operand.{IsOf};
 ghost use Rattle.xe_core.specs.Step.{outcome_of};
-ghost use Rattle.xe_ctx.specs.View.{view, cpu_of, state_in, SameHandles, IsOpen, accesses_left, bytes_left, fetched_of, code_of};
+ghost use Rattle.xe_ctx.specs.View.{view, cpu_of, state_in, SameHandles, IsOpen, accesses_left, bytes_left, code_of};
 ghost use Rattle.xe_core.specs.Emulate.{fetched};
 
 use xe_base::{Fault, INVALID_OPCODE};
@@ -26,17 +27,27 @@ pub(crate) fn outcome_of(stop: Stop) -> Outcome
     }
 }
 
+/// The instruction at CS:RIP, where it was decoded before: the same as [`instruction`] finds.
+#[inline(always)]
+#[tactic(auto, unfolding(crate::specs::Emulate::fetched))]
+pub(crate) fn known_instruction<'c, B: Bus, I: Intercepts>(ctx: &'c Ctx<B, I>) -> Option<&'c Insn>
+    ensures value { IfSome result (λ insn. Ok insn.now ≡ fetched (state_in ctx.now)) }
+    ensures had { IfSome result (λ insn. insn.now.len ≤ length (avail (state_in ctx.now)).bytes) }
+    ensures insn { IfSome result (λ insn. IsOf (cpu_of ctx.now) insn.now) }
+{
+    ctx.known()
+}
+
 /// The instruction at CS:RIP; or how the step ends without one: #UD for an invalid encoding,
 /// Unhandled for one that the table doesn't have, and where bytes are missing that it needs, why the
 /// first of them can't be had. Reading has no effect, so that bytes which the instruction turns out not
 /// to need don't matter, nor why they can't be had.
-#[inline]
 #[tactic(auto, unfolding(crate::specs::Emulate::fetched))]
 pub(crate) fn instruction<B: Bus, I: Intercepts>(ctx: &mut Ctx<B, I>) -> Result<Insn, Outcome>
     requires open { IsOpen B.sight ctx.old }
     requires none { code_of ctx.old ≡ [] }
     ensures value { result ≡ fetched (state_in ctx.old) }
-    ensures fetched { IfOk result (λ insn. insn.len ≤ fetched_of ctx.new) }
+    ensures had { IfOk result (λ insn. insn.len ≤ length (avail (state_in ctx.old)).bytes) }
     ensures insn { IfOk result (λ insn. IsOf (cpu_of ctx.old) insn) }
     ensures same { SameHandles ctx.old ctx.new }
     ensures open { IsOpen B.sight ctx.new }

@@ -6,7 +6,7 @@ mod fetch;
 pub mod laws;
 mod rows;
 
-pub use call::{emulate, emulate_into};
+pub use call::{emulate, emulate_into, emulate_with_draft};
 
 #[cfg(test)]
 mod tests;

@@ -8,6 +8,6 @@ use Rattle.xe_core.proofs.call.turn.Given as goal
 abbrev pub invariant-loop-nth : goal.invariant-loop-nth
 invariant-loop-nth g l = record {
   going : Going (steps_of (g.I.Intercepts.hits l.icpt)) (state_of l.fn.m) (kept_of l.fn.rec) (g.B.Bus.sight l.fn.bus) l.so_far (state_of l.m) (kept_of l.rec) (g.B.Bus.sight l.bus);
-  draft : l.cpu ≡ (state_of l.m).cpu;
+  draft_ : l.cpu ≡ (state_of l.m).cpu;
   count : l.so_far.elements + 1 ≡ l.nth;
 }
