@@ -22,8 +22,11 @@ impl Emulator {
     pub(crate) fn new(ram: GuestMem) -> Emulator
         ensures { seen result ≡ fresh ram }
     {
+        let machine = machine_with(ram);
+        let draft = *machine.cpu();
         Emulator {
-            machine: machine_with(ram),
+            machine,
+            draft,
             suspended: Record::new(),
             intercepts: SvmSet::new(),
             mailbox: Mailbox::new(),
@@ -41,7 +44,10 @@ impl Emulator {
             return AWAITING;
         }
         match self.machine.set_cpu(cpu) {
-            Ok(()) => OK,
+            Ok(()) => {
+                self.draft = cpu;
+                OK
+            }
             Err(_) => BAD_CPU,
         }
     }

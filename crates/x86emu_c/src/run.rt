@@ -16,7 +16,7 @@ use crate::report::X86emuReport;
 use crate::status::{BAD_BATCH, BAD_INDEX, NO_MACHINE, OK};
 use std::alloc::Global;
 use xe_base::Answer;
-use xe_core::emulate_into;
+use xe_core::emulate_with_draft;
 use xe_ctx::Outcome;
 
 /// Whether the record belonged to another step, so that an answer that came is still to be taken.
@@ -43,11 +43,12 @@ impl Emulator {
         ensures ran { Ran batch (seen self.old) (seen self.new) }
         ensures taken { is_diverged self.new.report.outcome ≡ false → (seen self.new).posted ≡ None }
     {
-        emulate_into(
+        emulate_with_draft(
             &mut self.machine,
             &self.intercepts,
             &mut self.mailbox,
             &mut self.suspended,
+            &mut self.draft,
             batch,
             &mut self.report,
         );
